@@ -1,2 +1,4 @@
+pub mod Calendar
 pub mod Ranges
 pub mod Refusals
+pub mod Rounding
