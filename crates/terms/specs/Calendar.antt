@@ -4,7 +4,7 @@ use mathlib.Core.List.{List, [], _∷_}
 use mathlib.Core.Bool.{Bool, true, false, cond, _&&_}
 use Prim.Native.Nat.{ℕ, _+_, _-_, _*_, _/_, _%_}
 use lib.Dec.{eqb, leb, ltb}
-use lib.IntN.{ℤ, pos}
+use lib.IntN.{ℤ, natAbs}
 use lib.ListN.{getD}
 use Rattle.std.specs.declared.result.Result.{Result}
 use Rattle.std.specs.declared.result.Result.the-variants.{Ok, Err}
@@ -41,9 +41,15 @@ isDate d =
 abbrev pub dayNumber : Date → ℕ
 dayNumber d = 365 * (d .year - 2017) + (d .year - 2017) / 4 + monthStart (leapDay (d .year)) (d .month - 1) + d .day - 1
 
--- the date of a day: the only date that has this number, or a refusal where it is no day
+-- the date with this number, and the only one
+pub record DateNumbered (n : ℕ) (d : Date) : Type 0 where
+  pub date : isDate d ≡ true
+  pub number : dayNumber d ≡ n
+  pub only : (e : Date) → isDate e ≡ true → dayNumber e ≡ n → e ≡ d
+
+-- the date of a day, or a refusal where it is no day
 abbrev pub DateOfDay : ℤ → Result Date Refusal → Type 0
-DateOfDay day (Ok d) = (isDay day ≡ true) × (isDate d ≡ true) × (pos (dayNumber d) ≡ day) × ((e : Date) → isDate e ≡ true → pos (dayNumber e) ≡ day → e ≡ d)
+DateOfDay day (Ok d) = (isDay day ≡ true) × DateNumbered (natAbs day) d
 DateOfDay day (Err e) = (isDay day ≡ false) × (e ≡ NoSuchDay)
 
 -- weekdays count from Sunday, as day numbers do

@@ -1,4 +1,5 @@
 pub mod Calendar
+pub mod Plans
 pub mod Ranges
 pub mod Refusals
 pub mod Rounding

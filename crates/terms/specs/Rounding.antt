@@ -15,3 +15,7 @@ roundedUp n = (n + 99) / 100
 abbrev pub requirementOf : ℕ → ℤ → ℕ
 requirementOf part (pos n) = 0
 requirementOf part (negsuc n) = roundedUp (roundedUp (suc n) * part)
+
+-- the penalty for a shortfall in collateral: one percent of it
+abbrev pub penaltyOf : ℕ → ℤ
+penaltyOf shortfall = rounded (pos shortfall)

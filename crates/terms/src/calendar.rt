@@ -1,10 +1,10 @@
 ghost use mathlib.Core.Path.{_≡_};
 ghost use mathlib.Core.List.{[], _∷_};
-ghost use mathlib.Core.Bool.{true, not};
-ghost use Prim.Native.Nat.{ℕ, _+_, _%_, _<_, _≤_};
+ghost use mathlib.Core.Bool.{not};
+ghost use Prim.Native.Nat.{_+_, _%_, _<_, _≤_};
 ghost use Rattle.terms.specs.declared.refusal.Refusal.the-variants.{NoSuchDay};
 ghost use Rattle.terms.specs.Refusals.{first, answered};
-ghost use Rattle.terms.specs.Calendar.{leapDay, monthStart, monthEnd, isDate, dayNumber, DateOfDay, weekdayNumber, isWeekend};
+ghost use Rattle.terms.specs.Calendar.{leapDay, monthStart, monthEnd, isDate, dayNumber, DateNumbered, DateOfDay, weekdayNumber, isWeekend};
 use crate::range::DAYS;
 use crate::refusal::Refusal;
 
@@ -90,7 +90,7 @@ impl Date {
 // The date within its four years, of which the last is a leap year.
 fn date_in_range(day: u32) -> Date
     requires { ⌜ day ≤ 30314 ⌝ }
-    ensures { λ r. ⌜ isDate r ≡ true ⌝ ∗ ⌜ dayNumber r ≡ day ⌝ }
+    ensures { λ r. ⌜ DateNumbered day r ⌝ }
 {
     let rest = day % 1461;
     let year = if rest < 1095 { rest / 365 } else { 3 };

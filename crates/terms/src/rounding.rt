@@ -1,6 +1,6 @@
 ghost use mathlib.Core.Path.{_≡_};
 ghost use lib.IntN.{ℤ, pos, _*ℤ_, _-ℤ_, natAbs};
-ghost use Prim.Native.Nat.{_≤_};
+ghost use Prim.Native.Nat.{_*_, _≤_};
 ghost use Rattle.terms.specs.Rounding.{rounded, roundedUp, requirementOf};
 use crate::percent::Percent;
 
@@ -20,11 +20,32 @@ pub fn hundredth(amount: i64) -> i64
     }
 }
 
+// Both factors have 32 bits, so the product has 64.
+fn product(dollars: u32, rise: i32) -> i64
+    ensures { λ r. ⌜ r ≡ pos dollars *ℤ rise ⌝ }
+{
+    dollars as i64 * rise as i64
+}
+
 // The centavos of a payment line: dollars times the signed rise of the rate, in ten-thousandths of a peso.
 pub fn payment(dollars: u32, rise: i32) -> i64
     ensures { λ r. ⌜ r ≡ rounded (pos dollars *ℤ rise) ⌝ }
 {
-    hundredth(dollars as i64 * rise as i64)
+    hundredth(product(dollars, rise))
+}
+
+fn hundredth_up(amount: u64) -> u64
+    ensures { λ r. ⌜ r ≡ roundedUp amount ⌝ }
+{
+    amount / 100 + if amount % 100 > 0 { 1 } else { 0 }
+}
+
+// The part of a loss, rounded up; a hundredth of any i64 leaves room for 100 percent.
+fn part_of(centavos: u64, part: Percent) -> u64
+    requires { ⌜ centavos ≤ 92233720368547759 ⌝ }
+    ensures { λ r. ⌜ r ≡ roundedUp (centavos * part .value) ⌝ }
+{
+    hundredth_up(centavos * part.value as u64)
 }
 
 // What a value asks for as a guarantee: its loss in centavos rounded up, and of that the part, rounded up.
@@ -34,12 +55,5 @@ pub fn requirement(value: i64, part: Percent) -> u64
     if value >= 0 {
         return 0;
     }
-    let centavos = hundredth_up(value.unsigned_abs());
-    hundredth_up(centavos * part.value as u64)
-}
-
-fn hundredth_up(amount: u64) -> u64
-    ensures { λ r. ⌜ r ≡ roundedUp amount ⌝ }
-{
-    amount / 100 + if amount % 100 > 0 { 1 } else { 0 }
+    part_of(hundredth_up(value.unsigned_abs()), part)
 }

@@ -1,9 +1,9 @@
 use borrow.Author.Needs.{needs}
 use native.Mathlib.Omega.{arith}
-use mathlib.Core.Path.{_≡_, _∙_}
+use mathlib.Core.Path.{_≡_, sym, _∙_}
 use Prim.Native.Nat.{_+_, _-_, _*_, _/_, _%_, _≤_}
 use Rattle.terms.specs.Calendar.{leapDay, monthStart, monthEnd}
-use Rattle.terms.proofs.Dates.{date-is, number-is}
+use Rattle.terms.proofs.Dates.{date-is, number-is, one-date}
 use Rattle.terms.proofs.calendar.date_in_range.Needs as need
 
 pub returns : need.returns
@@ -15,4 +15,6 @@ returns c =
     let young : y ≤ 2099 = search needs in
     let months : monthStart (leapDay y) k + d ≤ monthEnd (leapDay y) k = search needs in
     let number : 365 * (y - 2017) + (y - 2017) / 4 + monthStart (leapDay y) k + d - 1 ≡ n = search needs in
-    (date-is y k d (omega arith) young (search needs) (omega arith) months, number-is y k d ∙ number)
+    let date = date-is y k d (omega arith) young (search needs) (omega arith) months in
+    let same = number-is y k d ∙ number in
+    record { date = date; number = same; only = λ e h n. one-date e _ h date (n ∙ sym same) }

@@ -1,0 +1,5 @@
+pub mod Answered
+pub mod Moves
+pub mod Payments
+pub mod Records
+pub mod Totals
