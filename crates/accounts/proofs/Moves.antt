@@ -11,7 +11,7 @@ use mir.Syntax.{w64}
 use Rattle.std.proofs.shelf.Signed.{ints, toZ-ofZ}
 use Rattle.std.proofs.shelf.Lists.{getD-set-same, getD-set-other}
 use Rattle.std.proofs.shelf.Tests.{cases-eq}
-use Rattle.accounts.specs.Postings.{Accepted, moved, balanceOf}
+use Rattle.accounts.specs.Postings.{Accepted, moved}
 use Rattle.accounts.specs.Tables.{Bounded}
 use Rattle.accounts.proofs.Answered.{back}
 

@@ -1,17 +1,16 @@
 -- How the balances of a journal's records follow each posting.
 use mathlib.Core.Path.{_≡_, refl, sym, _∙_, ap}
-use mathlib.Core.Logic.{_≢_, _⊎_, ⊎-elim}
-use mathlib.Core.Bool.{true, false, cond}
-use mathlib.Core.List.{List, [], _∷_, _++_, map}
+use mathlib.Core.Logic.{_≢_, ⊎-elim}
+use mathlib.Core.Bool.{true, false}
+use mathlib.Core.List.{List, [], map}
 use Prim.Native.Nat.{ℕ, _+_, _-_, _*_, _≤_, _<_, min}
 use native.Mathlib.Omega.{arith}
 use lib.Dec.{eqb}
 use lib.ListN.{getD, set, length, take, length-set}
-use lib.IntN.{ℤ, pos, natAbs, negℤ, _+ℤ_, _-ℤ_}
+use lib.IntN.{ℤ, pos, natAbs, _+ℤ_, _-ℤ_}
 use lib.Signed.{_≤ℤ_, leZ}
 use mir.Val.{SFits}
 use mir.Syntax.{w64}
-use Rattle.std.specs.Iters.{counting}
 use Rattle.std.specs.declared.option.Option.the-variants.{None}
 use Rattle.std.specs.declared.result.Result.the-variants.{Ok}
 use Rattle.std.proofs.shelf.Signed.{ints, toZ-ofZ}
@@ -94,6 +93,7 @@ balance-push ps n p k h =
 -- a posting that is recorded moves the journal's balances
 pub journal-moved : (a b c : ℤ) (free n : ℕ) (ps : List Posting) → n < length ps → n < 50000 → Accepted a b c free
     → journalBalances (set ps n (record { payer = a; payee = b; centavos = c })) (n + 1) ≡ moved a b c (journalBalances ps n)
+unfolding journalBalances
 journal-moved a b c free n ps h few ok =
     ext-getD (pos 0) (journalBalances (set ps n p) (n + 1)) (moved a b c old) (sym (length-moved a b c old)) each
   where
@@ -152,6 +152,7 @@ recorded-there ps used = ⊎-elim
 pub balance-answered : (k r : ℤ) (n : ℕ) (ps : List Posting) (used : ℕ) → isParty (back k) ≡ true → SFits w64 k → SFits w64 r
     → n ≡ min (min used 50000) (length ps) → r ≡ balanceBy (take (n - 0) ps) (back k)
     → Ok (back r) ≡ answered (first (questionTests k)) (balanceOf k (journalBalances ps used))
+unfolding journalBalances
 balance-answered k r n ps used party fk fr is e =
     let party′ : isParty k ≡ true = ap isParty (sym (toZ-ofZ w64 k fk)) ∙ party in
     let least : pos 0 ≤ℤ k = grind (arith, ints) in

@@ -1,7 +1,7 @@
 -- A journal's records, and the balances that they come to. Assumes nothing: every list of records means something.
-use mathlib.Core.Bool.{Bool, cond}
+use mathlib.Core.Bool.{cond}
 use mathlib.Core.List.{List, map}
-use mathlib.Core.Path.{_≡_, refl}
+use mathlib.Core.Path.{_≡_}
 use Prim.Native.Nat.{ℕ, _-_, _≤_, min}
 use native.Mathlib.Omega.{arith}
 use lib.ListN.{length, take}
@@ -31,7 +31,7 @@ abbrev pub balanceBy : List Posting → (party : ℤ) → ℤ
 balanceBy records party = total (map (movedInto party) records)
 
 -- the balances of the seventeen parties
-abbrev pub journalBalances : (list : List Posting) (used : ℕ) → List ℤ
+unfoldable pub journalBalances : (list : List Posting) (used : ℕ) → List ℤ
 journalBalances list used = map (λ k. balanceBy (recorded list used) (pos k)) (counting 0 17)
 
 -- the places of the list that are not written yet, of the first 50,000
@@ -49,4 +49,5 @@ pub limited-journal : (list : List Posting) (used : ℕ) → freePlaces list use
 limited-journal list used = omega arith
 
 pub parties-journal : (list : List Posting) (used : ℕ) → length (journalBalances list used) ≡ 17
+unfolding journalBalances
 parties-journal list used = length-map-counting (λ k. balanceBy (recorded list used) (pos k)) 0 17

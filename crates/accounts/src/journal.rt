@@ -1,7 +1,7 @@
 ghost use mathlib.Core.Path.{_≡_};
-ghost use Prim.Native.Nat.{_+_, _-_, _≤_, min};
+ghost use Prim.Native.Nat.{_-_, _≤_, min};
 ghost use lib.ListN.{length, set};
-ghost use denote.Ref.{now as held};
+ghost use denote.Ref.{now as held, name};
 ghost use Rattle.terms.specs.Refusals.{answered, unlessRefused};
 ghost use Rattle.accounts.specs.Postings.{moved, noughts};
 ghost use Rattle.accounts.specs.Journals.{balanceBy, journalBalances, freePlaces, journalRefused, most-journal, limited-journal, parties-journal};
@@ -20,8 +20,11 @@ pub struct Journal<'a> {
 }
 
 impl<'a> Journal<'a> {
+    // `lends` tells a caller that what the journal writes stands in the caller's own list.
     pub fn new(list: &'a mut [Posting]) -> Journal<'a>
         ensures list { λ r. ⌜ held (r .list) ≡ now (list .entry) ⌝ }
+        ensures lends { λ r. ⌜ name (r .list) ≡ name (list .entry) ⌝ }
+        ensures used { λ r. ⌜ r .used ≡ 0 ⌝ }
         ensures balances { λ r. ⌜ journalBalances (held (r .list)) (r .used) ≡ noughts ⌝ }
         ensures free { λ r. ⌜ freePlaces (held (r .list)) (r .used) ≡ min (length (now (list .entry))) 50000 ⌝ }
     {
@@ -56,6 +59,7 @@ pub impl<'a> Accounts for Journal<'a> as JournalAccounts {
 
     ghost parties = { λ s. parties-journal (held (s .list)) (s .used) };
 
+    // The trait's clause again: an impl with a lifetime parameter does not take it over.
     fn capacity() -> usize
         ensures { λ r. ⌜ r ≡ 50000 ⌝ }
     {
@@ -83,6 +87,7 @@ pub impl<'a> Accounts for Journal<'a> as JournalAccounts {
         ensures moves { λ _. ⌜ journalBalances (held (now (self .exit) .list)) (now (self .exit) .used) ≡ unlessRefused (journalRefused payer payee centavos (held (now (self .entry) .list)) (now (self .entry) .used)) (moved payer payee centavos (journalBalances (held (now (self .entry) .list)) (now (self .entry) .used))) (journalBalances (held (now (self .entry) .list)) (now (self .entry) .used)) ⌝ }
         ensures uses { λ _. ⌜ freePlaces (held (now (self .exit) .list)) (now (self .exit) .used) ≡ unlessRefused (journalRefused payer payee centavos (held (now (self .entry) .list)) (now (self .entry) .used)) (freePlaces (held (now (self .entry) .list)) (now (self .entry) .used) - 1) (freePlaces (held (now (self .entry) .list)) (now (self .entry) .used)) ⌝ }
         ensures writes { λ _. ⌜ held (now (self .exit) .list) ≡ unlessRefused (journalRefused payer payee centavos (held (now (self .entry) .list)) (now (self .entry) .used)) (set (held (now (self .entry) .list)) (now (self .entry) .used) (record { payer = payer; payee = payee; centavos = centavos })) (held (now (self .entry) .list)) ⌝ }
+        ensures lends { λ _. ⌜ name (now (self .exit) .list) ≡ name (now (self .entry) .list) ⌝ }
     {
         test_posting(payer, payee, centavos, self.free_postings())?;
         let place = self.used;

@@ -51,8 +51,7 @@ pub impl Accounts for Table as TableAccounts {
 
     fn post(&mut self, payer: i64, payee: i64, centavos: i64) -> Result<(), Refusal> {
         test_posting(payer, payee, centavos, self.free)?;
-        let from = payer as usize;
-        let to = payee as usize;
+        let (from, to) = (payer as usize, payee as usize);
         let less = self.balances[from] - centavos;
         let more = self.balances[to] + centavos;
         self.balances[from] = less;

@@ -1,6 +1,4 @@
 use borrow.Author.Needs.{needs}
-use native.Mathlib.Omega.{arith}
-use Rattle.std.proofs.shelf.Signed.{ints}
 use Rattle.accounts.proofs.posting.test_posting.Needs as need
 
 pub returns : need.returns
