@@ -33,6 +33,14 @@ struct Figure {
     stated: i64,
 }
 
+fn row(what: &'static str, reckoned: i64, stated: i64) -> Figure {
+    Figure {
+        what,
+        reckoned,
+        stated,
+    }
+}
+
 // A refusal counts as its number below nought.
 fn told<T: Into<i64>>(answer: Result<T, Refusal>) -> i64 {
     match answer {
@@ -94,66 +102,18 @@ fn days(rt: &LibcRuntime) -> io::Result<()> {
     compare(
         rt,
         &[
-            Figure {
-                what: "day of 1 January 2017",
-                reckoned: day(2017, 1, 1),
-                stated: 0,
-            },
-            Figure {
-                what: "its weekday, from Sunday",
-                reckoned: weekday(0),
-                stated: 0,
-            },
-            Figure {
-                what: "day of 24 February 2017",
-                reckoned: day(2017, 2, 24),
-                stated: 54,
-            },
-            Figure {
-                what: "its weekday",
-                reckoned: weekday(54),
-                stated: 5,
-            },
-            Figure {
-                what: "day of 29 February 2020",
-                reckoned: day(2020, 2, 29),
-                stated: 1154,
-            },
-            Figure {
-                what: "day of 29 February 2019",
-                reckoned: day(2019, 2, 29),
-                stated: -5,
-            },
-            Figure {
-                what: "day of 31 December 2099",
-                reckoned: day(2099, 12, 31),
-                stated: 30_314,
-            },
-            Figure {
-                what: "day of 1 January 2100",
-                reckoned: day(2100, 1, 1),
-                stated: -5,
-            },
-            Figure {
-                what: "plan from Monday, day 64",
-                reckoned: plan(64, 100),
-                stated: 64,
-            },
-            Figure {
-                what: "plan from Sunday, day 63",
-                reckoned: plan(63, 100),
-                stated: -5,
-            },
-            Figure {
-                what: "plan from a holiday",
-                reckoned: plan(120, 100),
-                stated: -5,
-            },
-            Figure {
-                what: "plan with a part of 101 percent",
-                reckoned: plan(63, 101),
-                stated: -2,
-            },
+            row("day of 1 January 2017", day(2017, 1, 1), 0),
+            row("its weekday, from Sunday", weekday(0), 0),
+            row("day of 24 February 2017", day(2017, 2, 24), 54),
+            row("its weekday", weekday(54), 5),
+            row("day of 29 February 2020", day(2020, 2, 29), 1154),
+            row("day of 29 February 2019", day(2019, 2, 29), -5),
+            row("day of 31 December 2099", day(2099, 12, 31), 30_314),
+            row("day of 1 January 2100", day(2100, 1, 1), -5),
+            row("plan from Monday, day 64", plan(64, 100), 64),
+            row("plan from Sunday, day 63", plan(63, 100), -5),
+            row("plan from a holiday", plan(120, 100), -5),
+            row("plan with a part of 101 percent", plan(63, 101), -2),
         ],
     )
 }
@@ -162,76 +122,36 @@ fn amounts(rt: &LibcRuntime) -> io::Result<()> {
     compare(
         rt,
         &[
-            Figure {
-                what: "714,286 dollars at a rise of 75",
-                reckoned: payment(714_286, 75),
-                stated: 535_715,
-            },
-            Figure {
-                what: "at a fall of 75",
-                reckoned: payment(714_286, -75),
-                stated: -535_715,
-            },
-            Figure {
-                what: "at a rise of 25",
-                reckoned: payment(714_286, 25),
-                stated: 178_572,
-            },
-            Figure {
-                what: "penalty for a shortfall of 49",
-                reckoned: hundredth(49),
-                stated: 0,
-            },
-            Figure {
-                what: "penalty for a shortfall of 50",
-                reckoned: hundredth(50),
-                stated: 1,
-            },
-            Figure {
-                what: "requirement for a loss of 1 at 1 percent",
-                reckoned: required(-1, 1),
-                stated: 1,
-            },
-            Figure {
-                what: "requirement for a loss of 1,000,001 at 40 percent",
-                reckoned: required(-1_000_001, 40),
-                stated: 4_001,
-            },
-            Figure {
-                what: "requirement for a gain",
-                reckoned: required(1_000_001, 40),
-                stated: 0,
-            },
-            Figure {
-                what: "units -1 at rate 2",
-                reckoned: told(rate_by_units(-1, 2)),
-                stated: 1,
-            },
-            Figure {
-                what: "units -1 at rate 1",
-                reckoned: told(rate_by_units(-1, 1)),
-                stated: -4,
-            },
-            Figure {
-                what: "pro rata share of 1 million",
-                reckoned: share(&ProRata, 0),
-                stated: 714_286,
-            },
-            Figure {
-                what: "pro rata share of 2 million",
-                reckoned: share(&ProRata, 1),
-                stated: 1_428_572,
-            },
-            Figure {
-                what: "pro rata share of 4 million",
-                reckoned: share(&ProRata, 2),
-                stated: 2_857_142,
-            },
-            Figure {
-                what: "share by receipt of 4 million",
-                reckoned: share(&ByReceipt, 2),
-                stated: 2_000_000,
-            },
+            row(
+                "714,286 dollars at a rise of 75",
+                payment(714_286, 75),
+                535_715,
+            ),
+            row("at a fall of 75", payment(714_286, -75), -535_715),
+            row("at a rise of 25", payment(714_286, 25), 178_572),
+            row("penalty for a shortfall of 49", hundredth(49), 0),
+            row("penalty for a shortfall of 50", hundredth(50), 1),
+            row(
+                "requirement for a loss of 1 at 1 percent",
+                required(-1, 1),
+                1,
+            ),
+            row(
+                "requirement for a loss of 1,000,001 at 40 percent",
+                required(-1_000_001, 40),
+                4_001,
+            ),
+            row("requirement for a gain", required(1_000_001, 40), 0),
+            row("units -1 at rate 2", told(rate_by_units(-1, 2)), 1),
+            row("units -1 at rate 1", told(rate_by_units(-1, 1)), -4),
+            row("pro rata share of 1 million", share(&ProRata, 0), 714_286),
+            row("pro rata share of 2 million", share(&ProRata, 1), 1_428_572),
+            row("pro rata share of 4 million", share(&ProRata, 2), 2_857_142),
+            row(
+                "share by receipt of 4 million",
+                share(&ByReceipt, 2),
+                2_000_000,
+            ),
         ],
     )
 }

@@ -65,7 +65,7 @@ pub impl From<Refusal> for Stopped as StoppedFromRefusal {
 pub const MILLION: u32 = 1_000_000;
 
 // The dollars that each bid names.
-pub fn named(heap: Global, price: &Price) -> Result<Vec<u32>, AllocError> {
+pub(crate) fn named(heap: Global, price: &Price) -> Result<Vec<u32>, AllocError> {
     let mut amounts = Vec::new(heap);
     for (_, millions) in price.bids {
         amounts.push(millions.saturating_mul(MILLION))?;
@@ -73,7 +73,7 @@ pub fn named(heap: Global, price: &Price) -> Result<Vec<u32>, AllocError> {
     Ok(amounts)
 }
 
-pub fn total(amounts: &[u32]) -> u64 {
+pub(crate) fn total(amounts: &[u32]) -> u64 {
     let mut sum = 0u64;
     for amount in amounts {
         sum = sum.saturating_add(u64::from(*amount));
@@ -82,7 +82,7 @@ pub fn total(amounts: &[u32]) -> u64 {
 }
 
 // What the bids at one rate get of the dollars left, and how.
-pub fn allot(heap: Global, amounts: &[u32], left: u32) -> Result<(Met, Vec<u32>), Stopped> {
+pub(crate) fn allot(heap: Global, amounts: &[u32], left: u32) -> Result<(Met, Vec<u32>), Stopped> {
     if total(amounts) <= u64::from(left) {
         return Ok((Met::Whole, amounts.to_vec(heap)?));
     }
