@@ -1,0 +1,12 @@
+pub mod Allotment
+pub mod Arith
+pub mod Ledger
+pub mod Lives
+pub mod Orders
+pub mod Penalties
+pub mod Places
+pub mod Questions
+pub mod Rests
+pub mod Runs
+pub mod Sizes
+pub mod Stands
