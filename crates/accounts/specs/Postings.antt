@@ -55,9 +55,11 @@ total (z ∷ zs) = z +ℤ total zs
 abbrev pub linePayer : (institution centavos : ℤ) → ℤ
 linePayer institution centavos = cond (leZ (pos 0) centavos) (pos 0) institution
 
+-- the other side of the line
 abbrev pub linePayee : (institution centavos : ℤ) → ℤ
 linePayee institution centavos = cond (leZ (pos 0) centavos) institution (pos 0)
 
+-- a posting has the amount without its sign
 abbrev pub lineAmount : (centavos : ℤ) → ℤ
 lineAmount centavos = pos (natAbs centavos)
 

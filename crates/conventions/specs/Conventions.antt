@@ -14,9 +14,10 @@ decidesDaily question = cond (question .closing || leb 1 (question .«days_since
 abbrev pub decidesAtMaturity : Question → Decision
 decidesAtMaturity question = cond (question .closing) Settle Wait
 
--- their meanings, with the proof that each settles a hedge that is closing
+-- the meaning of daily, with the proof that it settles a hedge that is closing
 abbrev pub daily : Deciding
 daily = record { decides = decidesDaily; closes = λ question closing. rw closing }
 
+-- the meaning of at maturity, with the same proof
 abbrev pub at-maturity : Deciding
 at-maturity = record { decides = decidesAtMaturity; closes = λ question closing. rw closing }

@@ -13,15 +13,19 @@ pub record Figure : Type 0 where
   pub reckoned : List ℤ
   pub stated : List ℤ
 
+-- natural numbers as signed ones
 abbrev numbers : List ℕ → List ℤ
 numbers = map pos
 
+-- a single number
 abbrev one : ℤ → List ℤ
 one z = z ∷ []
 
+-- amounts of 1, 2 and 4 million dollars
 abbrev millions : List ℕ
 millions = 1000000 ∷ 2000000 ∷ 4000000 ∷ []
 
+-- the figures that are proved
 abbrev pub table : List Figure
 table =
     -- 24 February 2017 is day 54, a Friday
@@ -37,5 +41,6 @@ table =
     ∷ record { reckoned = one (penaltyOf 50); stated = one (pos 1) }
     ∷ []
 
+-- each figure is as stated
 abbrev pub Figures-as-stated : Type 0
 Figures-as-stated = map (λ f. f .reckoned) table ≡ map (λ f. f .stated) table

@@ -33,6 +33,7 @@ joinedTo x [] = (x ∷ []) ∷ []
 joinedTo x ([] ∷ gs) = (x ∷ []) ∷ gs
 joinedTo x ((y ∷ ys) ∷ gs) = cond (ltZ (y .price) (x .price)) ((x ∷ []) ∷ (y ∷ ys) ∷ gs) ((x ∷ y ∷ ys) ∷ gs)
 
+-- bids in falling price, in groups of one price
 abbrev pub prices : List Bid → List (List Bid)
 prices [] = []
 prices (x ∷ xs) = joinedTo x (prices xs)
@@ -41,6 +42,7 @@ prices (x ∷ xs) = joinedTo x (prices xs)
 abbrev pub Got : Type 0
 Got = record { of : Bid; dollars : ℕ }
 
+-- bids with their dollars, in order
 abbrev pub paired : List Bid → List ℕ → List Got
 paired [] ds = []
 paired (x ∷ xs) [] = []
@@ -64,6 +66,7 @@ abbrev pub assignedRate : Kind → ℕ → ℤ → ℤ
 assignedRate Initial rate price = price
 assignedRate Maturity rate price = price +ℤ pos rate
 
+-- what a bid with dollars becomes: number, current rate and terms are given
 abbrev pub dealOf : ℕ → ℕ → Terms → Got → Deal
 dealOf n rate t x = record { number = n; institution = x .of .institution; dollars = x .dollars; assigned = natAbs (assignedRate (t .kind) rate (x .of .price)); maturity = t .maturity }
 

@@ -22,6 +22,7 @@ abbrev pub total : List ℕ → ℕ
 total [] = 0
 total (x ∷ xs) = x + total xs
 
+-- the sum of a signed quantity over a list
 abbrev pub sumBy : {X : Type 0} → (X → ℤ) → List X → ℤ
 sumBy f [] = pos 0
 sumBy f (x ∷ xs) = f x +ℤ sumBy f xs
@@ -35,6 +36,7 @@ bank = 0
 abbrev pub parties : ℕ
 parties = 17
 
+-- by rising number
 abbrev pub institutions : List ℕ
 institutions = 1 ∷ 2 ∷ 3 ∷ 4 ∷ 5 ∷ 6 ∷ 7 ∷ 8 ∷ 9 ∷ 10 ∷ 11 ∷ 12 ∷ 13 ∷ 14 ∷ 15 ∷ 16 ∷ []
 
@@ -57,21 +59,26 @@ pub record Books : Type 0 where
   pub balance : ℕ → ℤ  -- by party
   pub free : ℕ  -- free postings
 
+-- a ticket of the bidding stage
 abbrev pub bidding : ℕ → TicketName
 bidding n = record { number = n; stage = Bidding }
 
+-- a ticket of the sealed stage
 abbrev pub sealed : ℕ → TicketName
 sealed n = record { number = n; stage = Sealed }
 
+-- two stages are the same
 abbrev pub sameStage : Stage → Stage → Bool
 sameStage Bidding Bidding = true
 sameStage Bidding Sealed = false
 sameStage Sealed Bidding = false
 sameStage Sealed Sealed = true
 
+-- two tickets are the same by number and stage
 abbrev pub sameTicket : TicketName → TicketName → Bool
 sameTicket s t = eqb (s .number) (t .number) && sameStage (s .stage) (t .stage)
 
+-- an auction stands
 abbrev pub stands : Option Auction → Bool
 stands None = false
 stands (Some a) = true
@@ -85,6 +92,7 @@ holds (Some a) t = sameTicket (a .ticket) t
 abbrev pub noAuction : Auction
 noAuction = record { ticket = bidding 0; terms = record { kind = Initial; offer = 0; cap = 0; maturity = 0 }; bids = [] }
 
+-- the standing auction
 abbrev pub standing : Option Auction → Auction
 standing None = noAuction
 standing (Some a) = a
@@ -93,6 +101,7 @@ standing (Some a) = a
 abbrev pub withAuction : Option Auction → ℕ → Books → Books
 withAuction a n b = record { day = b .day; rate = b .rate; auction = a; auctions = n; hedges = b .hedges; numbered = b .numbered; matured = b .matured; desk = b .desk; balance = b .balance; free = b .free }
 
+-- only the desk of institution i is another
 abbrev pub withDesk : ℕ → Desk → Books → Books
 withDesk i d b = record { day = b .day; rate = b .rate; auction = b .auction; auctions = b .auctions; hedges = b .hedges; numbered = b .numbered; matured = b .matured; desk = λ k. cond (eqb k i) d (b .desk k); balance = b .balance; free = b .free }
 

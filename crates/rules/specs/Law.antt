@@ -34,6 +34,7 @@ pub record Entry : Type 0 where
   pub answer : Answer
   pub lines : List Line
 
+-- the latest call first
 abbrev pub History : Type 0
 History = List Entry
 
@@ -63,30 +64,39 @@ eventOf (c.Terminate k) n = ended (natAbs k)
 abbrev pub event : Entry → Event
 event e = elim (e .answer) [ a.Refused why ↦ nothing | a.Done ↦ eventOf (e .call) 0 | a.Ticket n ↦ eventOf (e .call) n | a.Published n k ↦ eventOf (e .call) n | a.Fixed k ↦ eventOf (e .call) 0 | a.Terminated l ↦ eventOf (e .call) 0 ]
 
+-- the day and the rate of a fix
 abbrev pub Fixing : Type 0
 Fixing = record { day : ℕ; rate : ℕ }
 
+-- an accepted fix
 abbrev pub fixing : Entry → Option Fixing
 fixing e = elim (event e) [ fixed d r ↦ Some (record { day = d; rate = r }) | ended k ↦ None | announced n t ↦ None | took n x ↦ None | brought n k ↦ None | nothing ↦ None ]
 
+-- an accepted termination, by the hedge
 abbrev pub ending : Entry → Option ℕ
 ending e = elim (event e) [ fixed d r ↦ None | ended k ↦ Some k | announced n t ↦ None | took n x ↦ None | brought n k ↦ None | nothing ↦ None ]
 
+-- a ticket and the terms announced with it
 abbrev pub Announced : Type 0
 Announced = record { ticket : ℕ; terms : Terms }
 
+-- an accepted announcement
 abbrev pub announcing : Entry → Option Announced
 announcing e = elim (event e) [ fixed d r ↦ None | ended k ↦ None | announced n t ↦ Some (record { ticket = n; terms = t }) | took n x ↦ None | brought n k ↦ None | nothing ↦ None ]
 
+-- a bid under a ticket
 abbrev pub Bidden : Type 0
 Bidden = record { ticket : ℕ; of : Bid }
 
+-- an accepted bid
 abbrev pub bidden : Entry → Option Bidden
 bidden e = elim (event e) [ fixed d r ↦ None | ended k ↦ None | announced n t ↦ None | took n x ↦ Some (record { ticket = n; of = x }) | brought n k ↦ None | nothing ↦ None ]
 
+-- a published ticket, and the first hedge number told
 abbrev pub Brought : Type 0
 Brought = record { ticket : ℕ; first : ℕ }
 
+-- an accepted publication
 abbrev pub publishing : Entry → Option Brought
 publishing e = elim (event e) [ fixed d r ↦ None | ended k ↦ None | announced n t ↦ None | took n x ↦ None | brought n k ↦ Some (record { ticket = n; first = k }) | nothing ↦ None ]
 
@@ -94,12 +104,15 @@ publishing e = elim (event e) [ fixed d r ↦ None | ended k ↦ None | announce
 abbrev pub told : History → List Line
 told = joined (λ e. e .lines)
 
+-- the lines for an institution
 abbrev pub linesFor : ℕ → List Line → List Line
 linesFor i = kept-by (λ l. eqb (l .institution) i)
 
+-- the lines of a hedge
 abbrev pub linesOf : ℕ → List Line → List Line
 linesOf k = kept-by (λ l. eqb (l .hedge) k)
 
+-- the sum of their centavos
 abbrev pub sumOf : List Line → ℤ
 sumOf = sumBy (λ l. l .centavos)
 
@@ -123,6 +136,7 @@ bidsOf n (e ∷ h) = elim (bidden e) [ Some x ↦ cond (eqb (x .ticket) n) (ente
 abbrev pub Publication : Type 0
 Publication = record { ticket : ℕ; first : ℕ; rate : ℕ }
 
+-- the latest first
 abbrev pub publications : History → List Publication
 publications [] = []
 publications (e ∷ h) = elim (publishing e) [ Some p ↦ record { ticket = p .ticket; first = p .first; rate = rateNow h } ∷ publications h | None ↦ publications h ]
@@ -160,6 +174,7 @@ abbrev pub closedAt : Deal → History → Option ℕ
 closedAt g [] = None
 closedAt g (e ∷ h) = earliest (closedAt g h) (cond (closes g e) (Some (rateNow (e ∷ h))) None)
 
+-- the lines, if it had closed by then
 abbrev pub ifClosed : Option ℕ → List Line → List Line
 ifClosed (Some r) ls = ls
 ifClosed None ls = []
@@ -173,6 +188,7 @@ late g (e ∷ h) = ifClosed (closedAt g h) (linesOf (g .number) (e .lines)) ++ l
 abbrev pub near : ℕ → ℤ → ℤ → Type 0
 near k x y = natAbs (x -ℤ y) ≤ k
 
+-- the sum of a quantity over the parties below n
 abbrev pub sumTo : ℕ → (ℕ → ℤ) → ℤ
 sumTo zero f = pos 0
 sumTo (suc n) f = sumTo n f +ℤ f n
@@ -201,6 +217,7 @@ abbrev pub freed : Deal → History → Bool
 freed g [] = false
 freed g (e ∷ h) = elim (fixing e) [ Some f ↦ isSome (closedAt g h) | None ↦ freed g h ]
 
+-- the day that a record names as its last settlement's; the law leaves it open
 abbrev pub sinceOf : Option Hedge → ℕ
 sinceOf None = 0
 sinceOf (Some x) = x .since
@@ -254,6 +271,7 @@ abbrev pub Penal : Books → Line → Type 0
 Penal b l = l .hedge ≡ 0 → (b .desk (l .institution) .collateral < b .desk (l .institution) .requirement)
     × (l .centavos ≡ negℤ (penaltyOf (b .desk (l .institution) .requirement - b .desk (l .institution) .collateral)))
 
+-- one line, if the call terminated a hedge
 abbrev pub One-if : Option ℕ → List Line → Type 0
 One-if None ls = Unit {0}
 One-if (Some k) ls = length ls ≡ 1
@@ -270,6 +288,7 @@ pub record Run : Type 0 where
   pub books : Books
 
 module _ (P : Plan) (T : Sharing) (C : Deciding) where
+  -- one call more
   abbrev pub next : Call → Run → Run
   next c r = record { history = record { call = c; answer = step P T C (r .books) c .0 .answer; lines = step P T C (r .books) c .0 .lines } ∷ r .history; books = step P T C (r .books) c .1 }
 
@@ -278,10 +297,11 @@ module _ (P : Plan) (T : Sharing) (C : Deciding) where
   run free [] = record { history = []; books = opened P free }
   run free (c ∷ cs) = next c (run free cs)
 
--- over every plan, tie rule, convention, number of free postings and list of calls, and so after every call
+-- the law: over every plan, tie rule, convention, number of free postings and list of calls, and so after every call
 abbrev pub Law : Type 0
 Law = (P : Plan) (T : Sharing) (C : Deciding) (free : ℕ) (calls : List Call) → Books-show T (run P T C free calls .history) (run P T C free calls .books)
 
+-- every run is orderly
 abbrev pub Order-kept : Type 0
 Order-kept = (P : Plan) (T : Sharing) (C : Deciding) (free : ℕ) (calls : List Call) → Orderly P T (run P T C free calls .history)
 
@@ -289,5 +309,6 @@ Order-kept = (P : Plan) (T : Sharing) (C : Deciding) (free : ℕ) (calls : List 
 abbrev pub Penalties-one-percent : Type 0
 Penalties-one-percent = (P : Plan) (T : Sharing) (C : Deciding) (free : ℕ) (calls : List Call) (c : Call) → All (Penal (run P T C free calls .books)) (step P T C (run P T C free calls .books) c .0 .lines)
 
+-- in every run the lines fit the postings
 abbrev pub Postings-fit : Type 0
 Postings-fit = (P : Plan) (T : Sharing) (C : Deciding) (free : ℕ) (calls : List Call) → Postable free (run P T C free calls .history) (run P T C free calls .books)

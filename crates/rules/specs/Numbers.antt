@@ -15,9 +15,11 @@ abbrev pub kindNumber : Kind → ℕ
 kindNumber Initial = 0
 kindNumber Maturity = 1
 
+-- a number that names a kind
 abbrev pub isKind : ℤ → Bool
 isKind = within (pos 0) (pos 1)
 
+-- the kind that it names
 abbrev pub kindOf : ℤ → Kind
 kindOf k = cond (ltZ (pos 0) k) Maturity Initial
 

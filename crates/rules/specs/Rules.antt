@@ -24,6 +24,7 @@ use Rattle.rules.specs.declared.auction.Bid.{Bid}
 use Rattle.rules.specs.declared.hedge.Deal.{Deal}
 use Rattle.rules.specs.declared.hedge.Hedge.{Hedge}
 use Rattle.rules.specs.declared.hedge.Line.{Line}
+use Rattle.rules.specs.declared.hedge.Position.{Position}
 use Rattle.rules.specs.declared.call.Call.{Call}
 use Rattle.rules.specs.declared.call.Call.the-variants as c
 use Rattle.rules.specs.declared.call.Answer.{Answer}
@@ -37,6 +38,7 @@ use Rattle.rules.specs.Settlement.{fresh, lineOf, closing, pays, turned, openO
 abbrev pub isBusiness : Plan → ℤ → Bool
 isBusiness P day = isBusinessDay (holidaysOf P) day
 
+-- centavos that may be lodged or released at once
 abbrev pub isCollateral : ℤ → Bool
 isCollateral = within (pos 1) (pos 1000000000000000)
 
@@ -45,15 +47,19 @@ abbrev pub isPrice : Kind → ℕ → ℤ → Bool
 isPrice Initial rate p = isRate p
 isPrice Maturity rate p = isUnits p && isRate (p +ℤ pos rate)
 
+-- the institution is admitted
 abbrev pub isAdmitted : Books → ℤ → Bool
 isAdmitted b i = b .desk (natAbs i) .admitted
 
+-- how many institutions are admitted
 abbrev pub admittedOnes : Books → ℕ
 admittedOnes b = length (kept-by (λ i. b .desk i .admitted) institutions)
 
+-- the terms that announce names
 abbrev pub termsGiven : ℤ → ℤ → ℤ → ℤ → Terms
 termsGiven k o c m = record { kind = kindOf k; offer = natAbs o; cap = natAbs c; maturity = natAbs m }
 
+-- the bid that a call names
 abbrev pub bidGiven : ℤ → ℤ → ℤ → Bid
 bidGiven i p m = record { institution = natAbs i; price = p; millions = natAbs m }
 
@@ -66,6 +72,7 @@ pub record Told : Type 0 where
   pub answer : Answer
   pub lines : List Line
 
+-- an answer without lines
 abbrev pub quietly : Answer → Told
 quietly a = record { answer = a; lines = [] }
 
@@ -74,6 +81,7 @@ abbrev pub firstOf : List Line → Line
 firstOf [] = record { hedge = 0; institution = 0; centavos = pos 0 }
 firstOf (l ∷ ls) = l
 
+-- a refused call answers the refusal and leaves the books
 abbrev pub judged : Option Refusal → Told → Books → Books → Told × Books
 judged (Some e) a b b′ = (quietly (Refused e), b)
 judged None a b b′ = (a, b′)
@@ -82,6 +90,7 @@ judged None a b b′ = (a, b′)
 abbrev pub endLines : ℕ → Books → List Line
 endLines n b = map (lineOf (b .rate)) (kept-by (ofNumber n) (b .hedges))
 
+-- the terminated hedge is settled and closed, the others stay
 abbrev pub endHedges : ℕ → Books → List Hedge
 endHedges n b = map (λ x. turned (ofNumber n x) (ofNumber n x) (b .day) (b .rate) x) (b .hedges)
 
@@ -194,6 +203,9 @@ abbrev pub ask : ℕ → List Hedge → Option Hedge
 ask n [] = None
 ask n (x ∷ xs) = cond (eqb (x .deal .number) n) (Some x) (ask n xs)
 
--- for an institution: refused if it is none, or is not admitted
+-- for an institution: refused if it is none, or is not admitted; otherwise its position
 abbrev pub questionTests : Books → ℤ → List (Refusal × Bool)
 questionTests b i = (UnknownParty, not (isInstitution i)) ∷ (NotAdmitted, not (isAdmitted b i)) ∷ []
+
+abbrev pub positionOf : Books → ℤ → Position
+positionOf b i = record { balance = b .balance (natAbs i); collateral = b .desk (natAbs i) .collateral; value = b .desk (natAbs i) .value; requirement = b .desk (natAbs i) .requirement }

@@ -29,6 +29,7 @@ worth rate x = pos (x .deal .dollars) *ℤ rise rate x
 abbrev pub lineOf : ℕ → Hedge → Line
 lineOf rate x = record { hedge = x .deal .number; institution = x .deal .institution; centavos = rounded (worth rate x) }
 
+-- this is its maturity day
 abbrev pub closing : ℕ → Hedge → Bool
 closing day x = eqb (x .deal .maturity) day
 
@@ -40,6 +41,7 @@ pays C day rate x = isSettle (C .decides (record { day = day; «days_since» = d
 abbrev pub turned : Bool → Bool → ℕ → ℕ → Hedge → Hedge
 turned paid shut day rate x = record { deal = x .deal; settled = cond paid rate (x .settled); since = cond paid day (x .since); live = x .live && not shut }
 
+-- the hedges still open
 abbrev pub openOnes : List Hedge → List Hedge
 openOnes = kept-by (λ x. x .live)
 
@@ -51,9 +53,11 @@ ofNumber n x = x .live && eqb (x .deal .number) n
 abbrev pub short : (ℕ → Desk) → ℕ → Bool
 short desk i = desk i .admitted && ltb (desk i .collateral) (desk i .requirement)
 
+-- what it pays, as a line of no hedge
 abbrev pub penalty : (ℕ → Desk) → ℕ → Line
 penalty desk i = record { hedge = 0; institution = i; centavos = rounded (negℤ (pos (desk i .requirement - desk i .collateral))) }
 
+-- by rising institution
 abbrev pub penalties : (ℕ → Desk) → List Line
 penalties desk = map (penalty desk) (kept-by (short desk) institutions)
 
@@ -61,5 +65,6 @@ penalties desk = map (penalty desk) (kept-by (short desk) institutions)
 abbrev pub valueOf : ℕ → List Hedge → ℕ → ℤ
 valueOf rate hs i = sumBy (worth rate) (kept-by (λ x. x .live && eqb (x .deal .institution) i) hs)
 
+-- an institution's desk after a fix: value and requirement are reckoned anew
 abbrev pub revalued : ℕ → ℕ → List Hedge → (ℕ → Desk) → ℕ → Desk
 revalued part rate hs desk i = record { admitted = desk i .admitted; collateral = desk i .collateral; value = valueOf rate hs i; requirement = requirementOf part (valueOf rate hs i) }

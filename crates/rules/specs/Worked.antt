@@ -30,12 +30,15 @@ pub record Worked : Type 0 where
   pub calls : List Call
   pub stated : List Told
 
+-- what the definitions tell of each call
 abbrev pub reckoned : Worked → List Told
 reckoned w = reverse (map (λ e. record { answer = e .answer; lines = e .lines }) (run plan pro-rata (w .convention) (w .free) (reverse (w .calls)) .history))
 
+-- accepted, with nothing more to tell
 abbrev done : Told
 done = quietly a.Done
 
+-- a payment line
 abbrev line : ℕ → ℕ → ℤ → Line
 line h i z = record { hedge = h; institution = i; centavos = z }
 
@@ -86,6 +89,7 @@ shortfall lodged fine = record {
       ∷ done ∷ record { answer = a.Fixed 0; lines = [] } ∷ quietly (a.Refused CollateralOutOfBounds) ∷ record { answer = a.Fixed 1; lines = line 0 1 fine ∷ [] } ∷ [];
 }
 
+-- a refusal
 abbrev no : Refusal → Told
 no why = quietly (a.Refused why)
 
@@ -104,8 +108,10 @@ refusals = record {
       ∷ no NoFreePosting ∷ no UnknownParty ∷ no AmountOutOfRange ∷ no NotAdmitted ∷ no CollateralOutOfBounds ∷ no NoFreePosting ∷ [];
 }
 
+-- the worked runs
 abbrev pub worked : List Worked
 worked = tie ∷ roll ∷ end ∷ shortfall 9951 (pos 0) ∷ shortfall 9950 (negsuc 0) ∷ refusals ∷ []
 
+-- each is as stated
 abbrev pub Worked-as-stated : Type 0
 Worked-as-stated = map reckoned worked ≡ map (λ w. w .stated) worked

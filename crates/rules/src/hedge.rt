@@ -35,3 +35,12 @@ pub struct Desk {
     pub value: i64,
     pub requirement: u64,
 }
+
+// What a question for an institution answers: its balance at the accounts, and what its desk holds.
+#[derive(Clone, Copy)]
+pub struct Position {
+    pub balance: i64,
+    pub collateral: u64,
+    pub value: i64,
+    pub requirement: u64,
+}

@@ -62,6 +62,7 @@ weekdayNumber Thursday = 4
 weekdayNumber Friday = 5
 weekdayNumber Saturday = 6
 
+-- Saturday and Sunday
 abbrev pub isWeekend : Weekday → Bool
 isWeekend Sunday = true
 isWeekend Monday = false

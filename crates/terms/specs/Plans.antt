@@ -26,6 +26,7 @@ ascend last (x ∷ xs) = (ltZ last x && isDay x) && ascend x xs
 abbrev pub isWorkday : ℤ → Bool
 isWorkday day = isDay day && not (eqb (natAbs day % 7) 0) && not (eqb (natAbs day % 7) 6)
 
+-- two numbers are equal
 abbrev pub same : ℤ → ℤ → Bool
 same a b = leZ a b && leZ b a
 
@@ -46,9 +47,11 @@ planTests start percent holidays =
     ∷ (WrongLength, ltb 64 (length holidays))
     ∷ []
 
+-- the holidays of a plan: the first of its fixed list
 abbrev pub holidaysOf : Plan → List ℤ
 holidaysOf p = take (p .count) (p .holidays)
 
+-- the number of percent that was answered, or the refusal
 abbrev pub percentAnswer : Result Percent Refusal → Result ℕ Refusal
 percentAnswer (Ok p) = Ok (p .value)
 percentAnswer (Err e) = Err e

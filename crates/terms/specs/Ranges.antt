@@ -12,6 +12,7 @@ within least most z = leZ least z && leZ z most
 abbrev pub isParty : ℤ → Bool
 isParty = within (pos 0) (pos 16)
 
+-- an institution, and not the bank
 abbrev pub isInstitution : ℤ → Bool
 isInstitution = within (pos 1) (pos 16)
 
@@ -27,6 +28,7 @@ isRate = within (pos 1) (pos 999999)
 abbrev pub isUnits : ℤ → Bool
 isUnits = within (negsuc 9998) (pos 99999)
 
+-- a part of a whole
 abbrev pub isPercent : ℤ → Bool
 isPercent = within (pos 0) (pos 100)
 

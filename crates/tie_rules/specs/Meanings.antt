@@ -29,6 +29,7 @@ receipt-within amounts left tied = each amounts left
     each [] left = tt
     each (a ∷ amounts) left = (omega arith, each amounts (left - a))
 
+-- the meaning of the rule by receipt
 abbrev pub by-receipt : Sharing
 by-receipt = record { shares = byReceipt; whole = receipt-whole; within = receipt-within }
 
@@ -68,6 +69,7 @@ missing-few left total sum-of-parts rest count one e small = go (cases-lt count 
     go (inl more) = absurd (omega (arith, mul-le-mul-left {m = suc count + sum-of-parts} {n = left} total (omega arith)))
     go (inr few) = few
 
+-- how many dollars rounding down leaves missing
 pub record Missing (left total : ℕ) (amounts : List ℕ) : Type 0 where
   pub none-over : sum (parts left total amounts) ≤ left
   pub one-each : left - sum (parts left total amounts) ≤ length amounts
@@ -104,5 +106,6 @@ pub rata-within : (amounts : List ℕ) (left : ℕ) → Tied amounts left → Ea
 rata-within amounts left tied =
     oneMore-within (left - sum (parts left (sum amounts) amounts)) (parts left (sum amounts) amounts) amounts (parts-less left (sum amounts) amounts (tied .short) (tied .each))
 
+-- the meaning of the pro rata rule
 abbrev pub pro-rata : Sharing
 pro-rata = record { shares = proRata; whole = rata-whole; within = rata-within }
