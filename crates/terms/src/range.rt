@@ -50,3 +50,9 @@ pub const POSTINGS: Range = Range {
     least: 0,
     most: 30_000_000_000_000,
 };
+
+// Centavos of collateral that may be lodged or released at once.
+pub const LODGEMENTS: Range = Range {
+    least: 1,
+    most: 1_000_000_000_000_000,
+};
