@@ -3,6 +3,11 @@ use mathlib.Core.Path.{_≡_}
 use mathlib.Core.List.{List, [], _∷_, map}
 use Prim.Native.Nat.{ℕ, _%_}
 use lib.IntN.{ℤ, pos, negsuc, _*ℤ_}
+use Rattle.std.specs.declared.option.Option.the-variants.{Some, None}
+use Rattle.terms.specs.declared.refusal.Refusal.the-variants.{BadNumber}
+use Rattle.terms.specs.Refusals.{numberOf}
+use Rattle.day_sheet.specs.Groups.{groups}
+use Rattle.day_sheet.specs.Readings.{numberBy}
 use Rattle.terms.specs.declared.calendar.Weekday.the-variants.{Friday}
 use Rattle.terms.specs.Calendar.{dayNumber, weekdayNumber}
 use Rattle.terms.specs.Rounding.{rounded, penaltyOf}
@@ -25,6 +30,10 @@ one z = z ∷ []
 abbrev millions : List ℕ
 millions = 1000000 ∷ 2000000 ∷ 4000000 ∷ []
 
+-- the number that bytes spell, or the refusal's
+abbrev readAs : List ℕ → ℕ
+readAs bytes = elim (numberBy 9 bytes) [ Some r ↦ r .0 | None ↦ numberOf BadNumber ]
+
 -- the figures that are proved
 abbrev pub table : List Figure
 table =
@@ -39,6 +48,9 @@ table =
     -- the penalties for shortfalls of 49 and of 50 centavos
     ∷ record { reckoned = one (penaltyOf 49); stated = one (pos 0) }
     ∷ record { reckoned = one (penaltyOf 50); stated = one (pos 1) }
+    -- 210,000 in groups of seven bits is D0 E8 0C; 80 00 is refused with 7
+    ∷ record { reckoned = numbers (groups 210000); stated = numbers (208 ∷ 232 ∷ 12 ∷ []) }
+    ∷ record { reckoned = one (pos (readAs (128 ∷ 0 ∷ []))); stated = one (pos 7) }
     ∷ []
 
 -- each figure is as stated

@@ -22,7 +22,7 @@ fn proved_figures() -> usize
     ensures count { λ r. ⌜ r ≡ length table ⌝ }
     ensures stated { λ _. ⌜ Figures-as-stated ⌝ }
 {
-    7
+    9
 }
 
 // A figure as the code reckons it, beside what it has to be.

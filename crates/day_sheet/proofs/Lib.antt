@@ -1,0 +1,11 @@
+pub mod Spelling
+pub mod Overlays
+pub mod Runs
+pub mod Bodies
+pub mod Fronts
+pub mod Held
+pub mod Sheeted
+pub mod Courses
+pub mod Outcomes
+pub mod Alone
+pub mod Returns

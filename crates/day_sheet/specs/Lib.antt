@@ -1,0 +1,14 @@
+pub mod Groups
+pub mod Readings
+pub mod Writings
+pub mod Letters
+pub mod Faults
+pub mod Records
+pub mod Fields
+pub mod Holdings
+pub mod Heads
+pub mod Sheets
+pub mod Entries
+pub mod Writer
+pub mod Verdicts
+pub mod Runs
