@@ -1,4 +1,6 @@
 // Accounts of the central bank and the institutions: a table of balances, or a journal of postings.
+#![tactic(auto)]
+
 ghost use Rattle.std.specs.Prelude.{◌≡◌, ℕ, ◌-◌, ◌≤◌, List, length, ℤ};
 ghost use Rattle.terms.specs.Refusals.{first, answered, unless_refused};
 ghost use Rattle.accounts.specs.Postings.{posting_refused, question_tests, balance_of, moved};

@@ -1,4 +1,6 @@
 // What each bid of an auction gets.
+#![tactic(auto)]
+
 ghost use Rattle.std.specs.Prelude.{◌≡◌, ◌*◌, length};
 ghost use Rattle.terms.specs.Refusals.{answered, unless_refused};
 ghost use Rattle.allotment.specs.Allotting.{allot_refused, dollars_of, Fair};

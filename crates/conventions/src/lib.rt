@@ -1,4 +1,6 @@
 // Conventions: they decide whether a hedge is settled at a fixing.
+#![tactic(auto)]
+
 ghost use Rattle.std.specs.Prelude.{◌≡◌, true};
 ghost use Rattle.conventions.specs.Conventions.{daily, at_maturity};
 ghost use Rattle.conventions.specs.Deciding.{Deciding, is_settle};

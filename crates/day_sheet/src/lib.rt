@@ -1,4 +1,6 @@
 // The day sheet: a day's calls as a string of bytes, read and written record by record.
+#![tactic(auto)]
+
 pub mod check;
 mod entry;
 pub mod fault;

@@ -1,4 +1,6 @@
 // Figures of the rules: some are proved of the definitions, the others are reckoned by the code and compared.
+#![tactic(auto)]
+
 ghost use Rattle.std.specs.Prelude.{◌≡◌, length};
 ghost use Rattle.figures.specs.Figures.{table, FiguresAsStated};
 

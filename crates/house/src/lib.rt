@@ -1,4 +1,6 @@
 // A house: its tables beside accounts, a tie rule and a convention; tickets, the ten calls and the questions.
+#![tactic(auto)]
+
 pub mod calls;
 pub mod fixing;
 pub mod house;

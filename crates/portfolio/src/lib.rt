@@ -1,4 +1,6 @@
 // The hedges of a house on their places: issued, settled, terminated, and asked for.
+#![tactic(auto)]
+
 pub mod ending;
 pub mod issuing;
 pub mod opening;

@@ -1,4 +1,6 @@
 // A house driven call by call with its live ticket in hand, and whole lists of calls. The law stands here.
+#![tactic(auto)]
+
 pub mod asking;
 pub mod calling;
 pub mod general;

@@ -1,4 +1,6 @@
 // The rules of the house as definitions, over the types that its calls speak of, and the law that every run keeps.
+#![tactic(auto)]
+
 ghost use Rattle.std.specs.Prelude.{◌≡◌, length};
 ghost use Rattle.rules.specs.Law.{Law, OrderKept, PenaltiesOnePercent, PostingsFit};
 ghost use Rattle.rules.specs.Worked.{worked, WorkedAsStated};

@@ -1,4 +1,6 @@
 // Reads a day sheet from standard input and prints its records as text, one to a line, and its fault in words.
+#![tactic(auto)]
+
 mod text;
 
 use day_sheet::fault::{Fault, Layer};

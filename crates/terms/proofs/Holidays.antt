@@ -1,11 +1,11 @@
 -- A turn of the loop over the holidays, and what a search for a day among them tells.
-use Rattle.std.proofs.Common.{◌≡◌, ℕ, ◌+◌, ◌<◌, Bool, true, false, not, ◌&&◌, ◌||◌, eqb, ◌⊎◌, List, [], ◌∷◌, length, get_or, drop, ℤ, pos, Decides, sym, refl, ap, ◌∙◌, subst, inl, inr, arith}
-use lib.Signed.{le_z, lt_z}
+use Rattle.std.proofs.Common.{◌≡◌, ℕ, ◌+◌, ◌<◌, Bool, true, false, ◌&&◌, int_eq, List, length, get_or, drop, ℤ, pos, Decides, sym, refl, ap, ◌∙◌, arith}
+use lib.Signed.{lt_z}
 use Rattle.std.specs.List.{IsAnyAnswer}
 use Rattle.std.proofs.lemmas.List.Elements.{contains_decides}
 use Rattle.std.proofs.lemmas.List.{at_drop_more}
 use Rattle.std.proofs.lemmas.Int.{ints}
-use Rattle.std.proofs.lemmas.Bool.Decides.{Decides-by_or, same_from_decides, Decides-eqb}
+use Rattle.std.proofs.lemmas.Bool.Decides.{Decides-by_or, same_from_decides, Decides-int_eq}
 use Rattle.terms.specs.Ranges.{is_day}
 use Rattle.terms.specs.Plans.{ascend, same, is_among}
 
@@ -19,6 +19,6 @@ same-decides : (a b : ℤ) → Decides (same a b) (a ≡ b)
 same-decides a b = (λ h. grind (arith, ints), λ h. grind (arith, ints))
 
 -- what a search for a day among the holidays answers
-pub among_is : (day : ℤ) (xs : List ℤ) (r : Bool) → IsAnyAnswer (λ y t. Decides t (y ≡ day)) xs r → r ≡ is_among day xs
+pub among_is : (day : ℤ) (xs : List ℤ) (r : Bool) → IsAnyAnswer (λ y t. int_eq y day ≡ t) xs r → r ≡ is_among day xs
 among_is day xs r h =
-    same_from_decides r (is_among day xs) (contains_decides eqb Decides-eqb xs day r h) (Decides-by_or (λ x. same x day) (λ x. x ≡ day) (is_among day) (λ x. same-decides x day) refl (λ _ _. refl) xs)
+    same_from_decides r (is_among day xs) (contains_decides int_eq Decides-int_eq xs day r h) (Decides-by_or (λ x. same x day) (λ x. x ≡ day) (is_among day) (λ x. same-decides x day) refl (λ _ _. refl) xs)

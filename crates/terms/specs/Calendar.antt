@@ -1,5 +1,5 @@
 -- Dates, day numbers and weekdays from 1 January 2017, day 0, to 31 December 2099, day 30,314. Assumes nothing.
-use Rattle.std.specs.Prelude.{◌≡◌, ℕ, ◌+◌, ◌-◌, ◌*◌, ◌/◌, ◌%◌, Bool, true, false, cond, ◌&&◌, List, [], ◌∷◌, ℤ, Ok, Err, Result, ◌==◌, nat_le, nat_lt, slice_index, unsigned_abs}
+use Rattle.std.specs.Prelude.{◌≡◌, ℕ, ◌+◌, ◌-◌, ◌*◌, ◌/◌, ◌%◌, Bool, true, false, cond, ◌&&◌, [], ◌∷◌, ℤ, Ok, Err, Result, ◌==◌, nat_le, nat_lt, slice_index, unsigned_abs}
 use Rattle.terms.specs.declared.refusal.Refusal.{Refusal}
 use Rattle.terms.specs.declared.refusal.Refusal.TheVariants.{NoSuchDay}
 use Rattle.terms.specs.declared.calendar.Date.{Date}

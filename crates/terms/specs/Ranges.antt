@@ -1,5 +1,5 @@
 -- The ranges of the quantities that calls name. Assumes nothing.
-use Rattle.std.specs.Prelude.{ℕ, Bool, ◌&&◌, ℤ, pos, negsuc, int_le}
+use Rattle.std.specs.Prelude.{Bool, ◌&&◌, ℤ, pos, negsuc, int_le}
 
 -- a number from the least to the most, both included
 abbrev pub within : ℤ → ℤ → ℤ → Bool

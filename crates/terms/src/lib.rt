@@ -1,5 +1,7 @@
 // The terms that every layer speaks: refusals and their numbers, the ranges of quantities, rounding,
 // the calendar, and the plan of a house.
+#![tactic(auto)]
+
 pub mod calendar;
 pub mod percent;
 pub mod plan;

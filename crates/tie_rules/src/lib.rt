@@ -1,4 +1,6 @@
 // Rules that share the last dollars of an auction among bids at one price.
+#![tactic(auto)]
+
 pub mod by_receipt;
 mod check;
 pub mod pro_rata;

@@ -1,5 +1,7 @@
 // One auction, followed from the first bid to the last centavo: 200 million dollars on Monday 6 March 2017,
 // the highest rate first, ties shared by amount, and two fixings under daily settlement.
+#![tactic(auto)]
+
 mod auction;
 mod show;
 

@@ -7,8 +7,8 @@ pub returns : goal.returns
 returns c =
     let n = c.args.day in
     let y = 2017 + (4 * (n / 1461) + c.if-rest-lt1095.year) in
-    let k = c.month-of-month.result in
-    let d = n % 1461 - 365 * c.if-rest-lt1095.year - c.month-start.result + 1 in
+    let k = c.month_of-month.result in
+    let d = n % 1461 - 365 * c.if-rest-lt1095.year - c.month_start.result + 1 in
     let young : y ≤ 2099 = search rules in
     let months : month_start (leap_day y) k + d ≤ month_end (leap_day y) k = search rules in
     let number : 365 * (y - 2017) + (y - 2017) / 4 + month_start (leap_day y) k + d - 1 ≡ n = search rules in

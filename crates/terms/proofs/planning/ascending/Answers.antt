@@ -1,4 +1,4 @@
-use Rattle.std.proofs.Common.{◌≡◌, get_or, drop, ℤ, pos, negsuc, sym, ap, ◌∙◌, subst, w64, SFits, rules}
+use Rattle.std.proofs.Common.{◌≡◌, get_or, drop, ℤ, pos, negsuc, sym, ◌∙◌, subst, w64, SFits, rules}
 use Rattle.std.proofs.lemmas.List.{at_drop_all}
 use Rattle.std.proofs.lemmas.Int.{to_z-of_z}
 use Rattle.terms.specs.Plans.{ascend}

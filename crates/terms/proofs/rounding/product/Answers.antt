@@ -3,8 +3,8 @@ use Rattle.std.proofs.lemmas.Int.{to_z-of_z}
 use Rattle.terms.proofs.Rounds.{back, factors_back, product_fits}
 use Rattle.terms.proofs.rounding.product.Goals as goal
 
-pub overflow-mul-result : goal.overflow-mul-result
-overflow-mul-result c =
+pub overflow_mul-result : goal.overflow_mul-result
+overflow_mul-result c =
     let P : ℤ → Type 0 = SFits w64 in
     subst P (sym (factors_back c.args.dollars c.args.rise c.ranges.dollars c.ranges.rise)) (product_fits c.args.dollars c.args.rise c.ranges.dollars c.ranges.rise)
 
