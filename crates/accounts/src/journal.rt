@@ -83,7 +83,7 @@ impl<'a> Accounts for Journal<'a> {
         ensures answer { result ≡ answered (journal_refused payer payee centavos self.old.list.now self.old.used) tt }
         ensures moves { journal_balances self.new.list.now self.new.used ≡ unless_refused (journal_refused payer payee centavos self.old.list.now self.old.used) (moved payer payee centavos (journal_balances self.old.list.now self.old.used)) (journal_balances self.old.list.now self.old.used) }
         ensures uses { free_places self.new.list.now self.new.used ≡ unless_refused (journal_refused payer payee centavos self.old.list.now self.old.used) (free_places self.old.list.now self.old.used - 1) (free_places self.old.list.now self.old.used) }
-        ensures writes { held self.new.list ≡ unless_refused (journal_refused payer payee centavos (held self.old.list) self.old.used) (set (held self.old.list) self.old.used (record { payer = payer; payee = payee; centavos = centavos })) (held self.old.list) }
+        ensures writes { self.new.list.now ≡ unless_refused (journal_refused payer payee centavos self.old.list.now self.old.used) (set self.old.list.now self.old.used (record { payer = payer; payee = payee; centavos = centavos })) self.old.list.now }
         ensures lends { self.new.list.ghost_name ≡ self.old.list.ghost_name }
     {
         test_posting(payer, payee, centavos, self.free_postings())?;

@@ -11,7 +11,7 @@ returns-in-Ok c =
     let g : SFits w64 c.args.self.now.payee = search rules in
     let h : SFits w64 c.args.self.now.centavos = search rules in
     let n = sym (refused_back p.payer p.payee p.centavos 1 f g h) ∙ none_from_ok _ tt tt c.in-Ok.ensures.answer in
-    to_z-of_z w64 c.share.result (record { sfits = c.share.type-inv })
+    to_z-of_z w64 c.share.result (record { sfits = c.share.type_inv })
     ∙ c.share.ensures
     ∙ ap (λ k. share k p) (to_z-of_z w64 c.args.party c.ranges.party)
     ∙ new_unless (share c.args.party p) (pos 0) n
