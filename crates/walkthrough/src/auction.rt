@@ -29,6 +29,7 @@ pub enum Met {
     NothingLeft,
 }
 
+#[derive(Debug, Drop)]
 pub enum Stopped {
     NoMemory,
     NoOutput(io::Error),
