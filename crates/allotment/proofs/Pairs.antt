@@ -1,5 +1,5 @@
 -- Each bid stands beside what it gets, which is at most what it names.
-use Rattle.std.proofs.Common.{◌≡◌, ℕ, ◌+◌, ◌-◌, ◌*◌, ◌≤◌, List, [], ◌∷◌, ◌++◌, map, length, refl, ap, ◌∙◌, subst, ap₂, arith, length-append}
+use Rattle.std.proofs.Common.{◌≡◌, ℕ, ◌-◌, ◌*◌, ◌≤◌, List, [], ◌∷◌, ◌++◌, map, length, refl, ap, ◌∙◌, subst, ap₂, arith, length-append}
 use Rattle.std.specs.List.{AllZip, AllByRecursion as All}
 use Rattle.std.proofs.ByRecursion.{All-map, All-weaker, All-append}
 use Rattle.std.proofs.lemmas.List.{length-map, map-append}

@@ -5,11 +5,11 @@ use Rattle.allotment.proofs.Groups.{group_some, group_most}
 use Rattle.allotment.proofs.group.group_end.Goals as goal
 
 -- the size of the group
-size : (c : goal.After-group-size) → c.group-size.result ≡ group_size (drop c.args.start c.args.bids.now)
-size c = c.group-size.ensures ∙ ap group_size (take_rest c.args.bids.now c.args.start)
+size : (c : goal.After-group_size) → c.group_size.result ≡ group_size (drop c.args.start c.args.bids.now)
+size c = c.group_size.ensures ∙ ap group_size (take_rest c.args.bids.now c.args.start)
 
-pub overflow-add-result : goal.overflow-add-result
-overflow-add-result c =
+pub overflow_add-result : goal.overflow_add-result
+overflow_add-result c =
     let n = length-drop c.args.start c.args.bids.now in
     omega (arith, size c, group_most (drop c.args.start c.args.bids.now))
 

@@ -6,10 +6,10 @@ pub loop-i-init : goal.loop-i-init
 loop-i-init c = measured_start c.args.bids.now (omega arith)
 
 pub loop-i-preserved : goal.loop-i-preserved
-loop-i-preserved c = measured_more c.args.bids.now c.loop-i.i (omega arith) (sym c.if-is-lower.ensures) c.loop-i.invariant
+loop-i-preserved c = measured_more c.args.bids.now c.loop-i.i (omega arith) (sym c.if-is_lower.ensures) c.loop-i.invariant
 
-pub returns-then-is-lower : goal.returns-then-is-lower
-returns-then-is-lower c = measured_lower c.args.bids.now c.loop-i.i (omega arith) (sym c.if-is-lower.ensures) c.loop-i.invariant
+pub returns-then-is_lower : goal.returns-then-is_lower
+returns-then-is_lower c = measured_lower c.args.bids.now c.loop-i.i (omega arith) (sym c.if-is_lower.ensures) c.loop-i.invariant
 
 pub returns : goal.returns
 returns c = measured_all c.args.bids.now c.loop-i.i (omega arith) (omega arith) c.loop-i.invariant

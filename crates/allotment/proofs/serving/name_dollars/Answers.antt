@@ -5,8 +5,8 @@ use Rattle.allotment.proofs.serving.name_dollars.Goals as goal
 pub loop-i-init : goal.loop-i-init
 loop-i-init c = naming_start c.args.group.now c.args.amounts.now
 
-pub overflow-mul-dollars : goal.overflow-mul-dollars
-overflow-mul-dollars c = omega (arith, range_at c.args.group.now c.loop-i.i c.requires.ranged c.loop-i-test.true)
+pub overflow_mul-dollars : goal.overflow_mul-dollars
+overflow_mul-dollars c = omega (arith, range_at c.args.group.now c.loop-i.i c.requires.ranged c.loop-i-test.true)
 
 pub loop-i-preserved : goal.loop-i-preserved
 loop-i-preserved c = naming_more c.args.group.now c.loop-i.i c.loop-i.total c.from-total.result c.loop-i.amounts c.requires.ranged c.loop-i-test.true (omega arith) c.from-total.ensures c.loop-i.invariant

@@ -10,18 +10,18 @@ use Rattle.allotment.proofs.serving.serve_group.Goals as goal
 pub serve-requires : goal.serve-requires
 serve-requires g c =
     let xs = c.args.group.now in
-    let e = c.name-dollars-total.ensures.written in
+    let e = c.name_dollars-total.ensures.written in
     let n = ap length e ∙ length-map xs named in
     record {
       few = omega arith;
       placed = n ∙ c.requires.placed;
       ranged = ap (list_all is_dollars) e ∙ named-range xs c.requires.ranged;
-      summed = c.name-dollars-total.ensures.total ∙ ap total (sym e);
+      summed = c.name_dollars-total.ensures.total ∙ ap total (sym e);
       most = c.requires.most;
     }
 
 pub returns : goal.returns
 returns g c = record {
-  written = c.serve.ensures ∙ ap (served (g.T.TieRule.meaning c.args.tie-rule.now) c.args.left) c.name-dollars-total.ensures.written;
+  written = c.serve.ensures ∙ ap (served (g.T.TieRule.meaning c.args.tie_rule.now) c.args.left) c.name_dollars-total.ensures.written;
   rest = omega arith;
 }

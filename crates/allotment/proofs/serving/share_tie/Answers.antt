@@ -7,4 +7,4 @@ pub returns : goal.returns
 returns g c =
     let amounts = c.args.amounts.now in
     let none = tie-shared amounts c.args.left (length c.args.dollars.now) c.requires.few c.requires.placed c.requires.ranged c.requires.some c.requires.most c.requires.short in
-    c.share.ensures.shares ∙ ap (λ o. unless_refused o ((g.T.TieRule.meaning c.args.tie-rule.now).shares amounts c.args.left) c.args.dollars.now) none
+    c.share.ensures.shares ∙ ap (λ o. unless_refused o ((g.T.TieRule.meaning c.args.tie_rule.now).shares amounts c.args.left) c.args.dollars.now) none
