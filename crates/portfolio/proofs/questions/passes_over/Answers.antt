@@ -8,5 +8,5 @@ loop-hedge-preserved c = let e = skip_more c.args.day c.args.hedges.now c.loop-h
 pub returns : goal.returns
 returns c = let e = skip_all c.args.day c.args.hedges.now c.loop-hedge.hedge-index c.loop-hedge-test.false in search rules
 
-pub returns-then-is-passed-over : goal.returns-then-is-passed-over
-returns-then-is-passed-over c = let e = skip_more c.args.day c.args.hedges.now c.loop-hedge.hedge-index c.loop-hedge-test.true in search rules
+pub returns-then-is_passed_over : goal.returns-then-is_passed_over
+returns-then-is_passed_over c = let e = skip_more c.args.day c.args.hedges.now c.loop-hedge.hedge-index c.loop-hedge-test.true in search rules

@@ -3,11 +3,11 @@ use Rattle.portfolio.proofs.Sizes.{summed_more, summed_all}
 use Rattle.portfolio.proofs.Soundness.{sound_fit}
 use Rattle.portfolio.proofs.valuing.sum_worths.Goals as goal
 
-pub share-of-sum-requires : goal.share-of-sum-requires
-share-of-sum-requires c = sound_fit 0 c.requires.sound.0 c.args.hedges.now c.loop-hedge.hedge-index c.loop-hedge-test.true c.requires.sound.1
+pub share_of-sum-requires : goal.share_of-sum-requires
+share_of-sum-requires c = sound_fit 0 c.requires.sound.0 c.args.hedges.now c.loop-hedge.hedge-index c.loop-hedge-test.true c.requires.sound.1
 
 pub loop-hedge-preserved : goal.loop-hedge-preserved
-loop-hedge-preserved c = summed_more c.args.rate.units c.args.institution c.args.hedges.now c.loop-hedge.hedge-index _ c.share-of-sum.result c.loop-hedge-test.true c.requires.few c.loop-hedge.invariant c.share-of-sum.ensures.value c.share-of-sum.ensures.small
+loop-hedge-preserved c = summed_more c.args.rate.units c.args.institution c.args.hedges.now c.loop-hedge.hedge-index _ c.share_of-sum.result c.loop-hedge-test.true c.requires.few c.loop-hedge.invariant c.share_of-sum.ensures.value c.share_of-sum.ensures.small
 
 pub returns : goal.returns
 returns c =

@@ -9,7 +9,7 @@ returns c =
     let r = c.args.rate in
     let x = c.args.hedge in
     let f : SFits w64 c.gain.result = search rules in
-    let g : SFits w32 c.rise-of.result = search rules in
-    let e : c.gain.result ≡ worth r.units x = c.gain.ensures ∙ ap (λ (z : ℤ). pos x.deal.dollars *ℤ z) (to_z-of_z w32 c.rise-of.result g ∙ c.rise-of.ensures) in
+    let g : SFits w32 c.rise_of.result = search rules in
+    let e : c.gain.result ≡ worth r.units x = c.gain.ensures ∙ ap (λ (z : ℤ). pos x.deal.dollars *ℤ z) (to_z-of_z w32 c.rise_of.result g ∙ c.rise_of.ensures) in
     let v = to_z-of_z w64 c.gain.result f ∙ e in
     record { value = v; small = subst (λ (z : ℤ). nat_abs z ≤ 2000000000000000) (sym v) (worth-small r.units x r.ok.1 c.requires) }

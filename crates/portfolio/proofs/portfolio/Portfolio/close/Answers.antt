@@ -4,25 +4,25 @@ use Rattle.rules.specs.Settlement.{line_of}
 use Rattle.portfolio.proofs.Soundness.{fit_placed, sound_written, alone_at, ended_at}
 use Rattle.portfolio.proofs.portfolio.Portfolio.close.Goals as goal
 
-pub end-one-requires : goal.end-one-requires
-end-one-requires c =
+pub end_one-requires : goal.end_one-requires
+end_one-requires c =
     let p = c.args.self.now in
     let room : p.placed ≤ length p.hedges = omega arith in
     fit_placed p.numbered p.placed p.hedges c.args.place c.requires room p.sound
 
-pub invariant-of-self : goal.invariant-of-self
-invariant-of-self c =
+pub invariant_of-self : goal.invariant_of-self
+invariant_of-self c =
     let p = c.args.self.now in
     let room : p.placed ≤ length p.hedges = omega arith in
-    ((simp length-set p.sized.0, p.sized.1, p.sized.2), (sound_written p.numbered p.placed p.hedges c.args.place c.requires room p.sound true true c.args.day c.args.rate.units _ c.args.rate.ok.1 c.end-one.ensures.hedge, tt))
+    record { sized = (simp length-set p.sized.0, p.sized.1, p.sized.2); sound = sound_written p.numbered p.placed p.hedges c.args.place c.requires room p.sound true true c.args.day c.args.rate.units _ c.args.rate.ok.1 c.end_one.ensures.hedge }
 
 pub returns : goal.returns
 returns c =
     let p = c.args.self.now in
     let room : p.placed ≤ length p.hedges = omega arith in
     record {
-      payable = c.end-one.ensures.payable;
-      line = λ n o. ap (map (line_of c.args.rate.units)) (alone_at p.numbered p.placed p.hedges c.args.place c.requires room p.sound n o) ∙ ap (λ (l : Line). l ∷ []) (sym c.end-one.ensures.line);
-      hedges = λ n o. ended_at p.numbered p.placed p.hedges c.args.place c.requires room p.sound n c.args.day c.args.rate.units _ o c.end-one.ensures.hedge;
+      payable = c.end_one.ensures.payable;
+      line = λ n o. ap (map (line_of c.args.rate.units)) (alone_at p.numbered p.placed p.hedges c.args.place c.requires room p.sound n o) ∙ ap (λ (l : Line). l ∷ []) (sym c.end_one.ensures.line);
+      hedges = λ n o. ended_at p.numbered p.placed p.hedges c.args.place c.requires room p.sound n c.args.day c.args.rate.units _ o c.end_one.ensures.hedge;
       numbered = refl;
     }

@@ -12,4 +12,4 @@ returns c =
     let s : lt_z n (pos 0) ≡ false = simp to_z-of_z at c.if-number-lt0.false in
     let e : nat_abs (to_z w64 (of_z w64 n)) ≡ nat_abs n = grind (arith, ints) in
     let all : p.placed - 0 ≡ p.placed = omega arith in
-    open_answer_by n p c.find-open.result (nat_abs (to_z w64 (of_z w64 n))) (take (p.placed - 0) p.hedges) s e (ap (λ (k : ℕ). take k p.hedges) all) c.find-open.ensures
+    open_answer_by n p c.find_open.result (nat_abs (to_z w64 (of_z w64 n))) (take (p.placed - 0) p.hedges) s e (ap (λ (k : ℕ). take k p.hedges) all) c.find_open.ensures
