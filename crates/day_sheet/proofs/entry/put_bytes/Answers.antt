@@ -1,4 +1,4 @@
-use Rattle.std.proofs.Common.{◌-◌, refl, arith}
+use Rattle.std.proofs.Common.{refl, arith}
 use Rattle.day_sheet.proofs.Overlays.{written-part}
 use Rattle.day_sheet.proofs.entry.put_bytes.Goals as goal
 
