@@ -1,5 +1,5 @@
 -- How the tables of a house are read as its books. Assumes nothing.
-use Rattle.std.specs.Prelude.{◌≡◌, ℕ, Bool, true, false, List, [], take, ℤ, pos, Some, None, Ok, Err, Option, Result, slice_index_or}
+use Rattle.std.specs.Prelude.{◌≡◌, ℕ, false, List, take, ℤ, pos, Some, None, Ok, Err, Option, Result, slice_index_or}
 use Rattle.terms.specs.declared.refusal.Refusal.{Refusal}
 use Rattle.terms.specs.Refusals.{first}
 use Rattle.tie_rules.specs.Sharing.{Sharing}

@@ -8,7 +8,7 @@ use Rattle.std.specs.List.{AllByRecursion as All}
 use Rattle.rules.proofs.Arith.{near_none}
 use Rattle.rules.proofs.Ledger.{ToInstitution}
 use Rattle.rules.proofs.Allotment.{Sound}
-use Rattle.rules.proofs.Lives.{here, kept_none, kept_map, kept_kept, kept_alike, over, going, Lived, lived_quiet, lived_turned, closed_same, fix_lines_of, end-lines_of, here-turned, here-turned_open}
+use Rattle.rules.proofs.Lives.{here, kept_none, kept_map, kept_kept, kept_alike, going, Lived, lived_quiet, lived_turned, closed_same, fix_lines_of, end-lines_of, here-turned, here-turned_open}
 use Rattle.rules.specs.declared.call.Call.TheVariants.{Fix as fix, Terminate as terminate, Publish as publish}
 use Rattle.rules.specs.declared.call.Answer.TheVariants.{Fixed, Terminated, Published}
 use Rattle.rules.specs.declared.hedge.Line.{Line}

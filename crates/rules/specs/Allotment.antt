@@ -1,5 +1,5 @@
 -- Bids, and the dollars that they get. Assumes nothing.
-use Rattle.std.specs.Prelude.{ℕ, suc, ◌+◌, ◌-◌, ◌*◌, cond, List, [], ◌∷◌, ◌++◌, map, ℤ, pos, ◌+ℤ◌, filter, ◌==◌, int_lt, nat_eq, nat_le, unsigned_abs}
+use Rattle.std.specs.Prelude.{ℕ, suc, ◌-◌, ◌*◌, cond, List, [], ◌∷◌, ◌++◌, map, ℤ, pos, ◌+ℤ◌, filter, ◌==◌, int_lt, nat_eq, nat_le, unsigned_abs}
 use Rattle.tie_rules.specs.Sharing.{Sharing}
 use Rattle.rules.specs.declared.auction.Kind.{Kind}
 use Rattle.rules.specs.declared.auction.Kind.TheVariants.{Initial, Maturity}

@@ -5,8 +5,8 @@ use Rattle.tie_rules.specs.Sharing.{is_dollars}
 use Rattle.tie_rules.proofs.Turns.{range_more}
 use Rattle.tie_rules.proofs.check.all_in_range.Goals as goal
 
-pub returns-then-not-in-range : goal.returns-then-not-in-range
-returns-then-not-in-range c =
+pub returns-then-not-in_range : goal.returns-then-not-in_range
+returns-then-not-in_range c =
     let e = range_more c.args.amounts.now c.loop-amount.amount-index c.loop-amount-test.true in search rules
 
 pub loop-amount-preserved : goal.loop-amount-preserved

@@ -5,8 +5,8 @@ use Rattle.std.proofs.ByRecursion.{All-get_or, All-take}
 use Rattle.tie_rules.proofs.Turns.{one_more_each-here, one_more_each-all}
 use Rattle.tie_rules.proofs.pro_rata.add_one_each.Goals as goal
 
-pub overflow-add-share : goal.overflow-add-share
-overflow-add-share c =
+pub overflow_add-share : goal.overflow_add-share
+overflow_add-share c =
     let first = take c.args.count c.args.shares.now in
     let small = All-get_or (λ s. s < 2000000000) first c.loop-share.share-index 0 c.loop-share-test.true (All-take (λ s. s < 2000000000) c.args.count c.args.shares.now c.requires.small) in
     omega (arith, ap (λ xs. get_or xs c.loop-share.share-index 0) c.loop-share.invariant, one_more_each-here first c.loop-share.share-index c.loop-share-test.true)

@@ -5,8 +5,8 @@ use Rattle.tie_rules.proofs.pro_rata.write_parts.Goals as goal
 pub loop-i-init : goal.loop-i-init
 loop-i-init c = record { front = refl; dollars = omega arith }
 
-pub overflow-sub-missing : goal.overflow-sub-missing
-overflow-sub-missing c =
+pub overflow_sub-missing : goal.overflow_sub-missing
+overflow_sub-missing c =
     omega (arith, written-room c.args.amounts.now c.args.left c.args.total c.loop-i.i c.loop-i.missing c.loop-i.shares c.requires.total c.requires.short c.loop-i-test.true c.loop-i.invariant)
 
 pub loop-i-preserved : goal.loop-i-preserved

@@ -1,4 +1,4 @@
-use Rattle.std.proofs.Common.{◌≡◌, List, take, Some, sym, refl, ap, ◌∙◌}
+use Rattle.std.proofs.Common.{List, take, Some, sym, refl, ap, ◌∙◌}
 use Rattle.rules.specs.declared.call.Call.TheVariants.{Bid as Offers}
 use Rattle.rules.specs.Allotment.{entered}
 use Rattle.rules.specs.declared.auction.Bid.{Bid}
