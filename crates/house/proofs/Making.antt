@@ -1,9 +1,8 @@
 -- Calls that tell lines, once the lines are posted.
-use Rattle.std.proofs.Common.{◌≡◌, ℕ, ◌-◌, List, [], ◌∷◌, length, ℤ, sym, refl, ap, ◌∙◌}
+use Rattle.std.proofs.Common.{ℕ, ◌-◌, List, length, ℤ, sym, refl, ap, ◌∙◌}
 use Rattle.tie_rules.specs.Sharing.{Sharing}
 use Rattle.conventions.specs.Deciding.{Deciding}
 use Rattle.rules.specs.declared.call.Call.{Call}
-use Rattle.rules.specs.Books.{posted}
 use Rattle.rules.specs.Rules.{Told}
 use Rattle.tables.specs.View.{books_of, Tells}
 use Rattle.tables.specs.declared.book.Book.{Book}

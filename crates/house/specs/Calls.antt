@@ -1,11 +1,11 @@
 -- What a call does to a house: its answer, its lines, and the books after it. Assumes nothing.
-use Rattle.std.specs.Prelude.{◌≡◌, ℕ, List, [], length, ℤ, pos, Ok, Err, Result}
+use Rattle.std.specs.Prelude.{◌≡◌, ℕ, List, length, ℤ, pos, Ok, Err, Result}
 use Rattle.terms.specs.declared.refusal.Refusal.{Refusal}
 use Rattle.tie_rules.specs.Sharing.{Sharing}
 use Rattle.conventions.specs.Deciding.{Deciding}
 use Rattle.rules.specs.declared.auction.TicketName.{TicketName}
 use Rattle.rules.specs.declared.call.Call.{Call}
-use Rattle.rules.specs.declared.call.Call.TheVariants.{Publish, Fix}
+use Rattle.rules.specs.declared.call.Call.TheVariants.{Fix}
 use Rattle.rules.specs.declared.call.Answer.{Answer}
 use Rattle.rules.specs.declared.call.Answer.TheVariants.{Refused, Ticket, Published}
 use Rattle.rules.specs.Books.{Books, bidding, sealed, opened}

@@ -1,4 +1,4 @@
-use Rattle.std.proofs.Common.{◌≡◌, ℕ, ◌+◌, List, length, get_or, take, pos, sym, ap, ◌∙◌, subst, arith, length-take}
+use Rattle.std.proofs.Common.{List, take, sym, subst, arith, length-take}
 use Rattle.std.proofs.lemmas.List.{take_more, take_all}
 use Rattle.std.proofs.ByRecursion.{All-get_or}
 use Rattle.rules.specs.declared.hedge.Line.{Line}
@@ -10,8 +10,8 @@ use Rattle.house.proofs.posting.post_lines.Goals as goal
 pub loop-line-init : goal.loop-line-init
 loop-line-init g c = posts_none (g.A.Accounts.balances c.args.accounts.now) (g.A.Accounts.free c.args.accounts.now)
 
-pub post-line-requires : goal.post-line-requires
-post-line-requires g c =
+pub post_line-requires : goal.post_line-requires
+post_line-requires g c =
     let ls = c.args.lines.now in
     let i = c.loop-line.line-index in
     let lt = c.loop-line-test.true in
@@ -24,9 +24,9 @@ loop-line-preserved g c =
     let ls = c.args.lines.now in
     let i = c.loop-line.line-index in
     let s = c.args.accounts.now in
-    let t = c.post-line.new.accounts in
+    let t = c.post_line.new.accounts in
     subst (λ (xs : List Line). Posts xs (m.balances s) (m.free s) (m.balances t) (m.free t)) (sym (take_more ls i no_line c.loop-line-test.true))
-    (posts_more (take i ls) _ (m.balances s) (m.balances c.loop-line.accounts) (m.balances t) (m.free s) (m.free c.loop-line.accounts) (m.free t) c.loop-line.invariant c.post-line.ensures)
+    (posts_more (take i ls) _ (m.balances s) (m.balances c.loop-line.accounts) (m.balances t) (m.free s) (m.free c.loop-line.accounts) (m.free t) c.loop-line.invariant c.post_line.ensures)
 
 pub returns : goal.returns
 returns g c =
