@@ -3,13 +3,10 @@
 
 pub mod asking;
 pub mod calling;
-pub mod general;
 pub mod holding;
 pub mod in_hand;
 pub mod log;
 pub mod opening;
 pub mod request;
 pub mod room;
-pub mod running;
 pub mod settling;
-pub mod transcript;

@@ -14,6 +14,6 @@ returns g c =
     let d = c.args.self.now in
     let call = Admit c.args.institution in
     let h' = c.admit.new.self in
-    let q = subst (λ (x : Answer). Quiet d.house call x h') (sym c.done-or.ensures) (simp to_z-of_z at c.admit.ensures) in
-    still_turns g.A.Accounts.balances g.A.Accounts.free g.T.TieRule.meaning g.C.Convention.meaning d call (quietly c.done-or.result) _
-    (quiet_makes g.A.Accounts.balances g.A.Accounts.free g.T.TieRule.meaning g.C.Convention.meaning d.house call c.done-or.result h' q) refl refl
+    let q = subst (λ (x : Answer). Quiet d.house call x h') (sym c.done_or.ensures) (simp to_z-of_z at c.admit.ensures) in
+    still_turns g.A.Accounts.balances g.A.Accounts.free g.T.TieRule.meaning g.C.Convention.meaning d call (quietly c.done_or.result) _
+    (quiet_makes g.A.Accounts.balances g.A.Accounts.free g.T.TieRule.meaning g.C.Convention.meaning d.house call c.done_or.result h' q) refl refl

@@ -32,6 +32,6 @@ returns-else-number g c =
     let same = sym c.number.ensures ∙ c.if-number.false in
     let call = Bid c.args.number c.args.institution c.args.price c.args.millions in
     let h' = c.bid.new.self in
-    let q = subst (λ (x : Answer). Quiet d.house call x h') (sym c.done-or.ensures) (simp (to_z-of_z, same) at c.bid.ensures) in
-    bid_turns g.A.Accounts.balances g.A.Accounts.free g.T.TieRule.meaning g.C.Convention.meaning d c.args.number c.args.institution c.args.price c.args.millions (quietly c.done-or.result) _
-    (quiet_makes g.A.Accounts.balances g.A.Accounts.free g.T.TieRule.meaning g.C.Convention.meaning d.house call c.done-or.result h' q) refl (held_this_bidding d.hand c.in-Bidding.ticket c.args.number c.in-Bidding.is same)
+    let q = subst (λ (x : Answer). Quiet d.house call x h') (sym c.done_or.ensures) (simp (to_z-of_z, same) at c.bid.ensures) in
+    bid_turns g.A.Accounts.balances g.A.Accounts.free g.T.TieRule.meaning g.C.Convention.meaning d c.args.number c.args.institution c.args.price c.args.millions (quietly c.done_or.result) _
+    (quiet_makes g.A.Accounts.balances g.A.Accounts.free g.T.TieRule.meaning g.C.Convention.meaning d.house call c.done_or.result h' q) refl (held_this_bidding d.hand c.in-Bidding.ticket c.args.number c.in-Bidding.is same)
