@@ -10,7 +10,7 @@ use Rattle.day_sheet.specs.Letters.{ending_of}
 use Rattle.day_sheet.specs.Records.{Run}
 use Rattle.day_sheet.specs.Writings.{written_at}
 use Rattle.day_sheet.specs.Entries.{spelled, entry_refusal}
-use Rattle.day_sheet.specs.Writer.{RunOf, refusal, Spells}
+use Rattle.day_sheet.specs.Writer.{RunOf, Spells}
 
 pub run_of : (l : Letter) (tail : List ℕ) (k : Ending) → k ≡ ending_of l → k ≡ Holidays → RunOf l tail → Run tail
 run_of l tail k a b run =

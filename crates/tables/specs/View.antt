@@ -1,5 +1,5 @@
 -- How the tables of a house are read as its books. Assumes nothing.
-use Rattle.std.specs.Prelude.{◌≡◌, ℕ, ◌-◌, ◌≤◌, Bool, true, false, List, [], ◌∷◌, ◌++◌, length, take, drop, ℤ, pos, Some, None, Ok, Err, Option, Result, slice_index_or}
+use Rattle.std.specs.Prelude.{◌≡◌, ℕ, ◌-◌, ◌≤◌, List, [], ◌∷◌, ◌++◌, length, take, drop, ℤ, Some, None, Ok, Err, Option, Result, slice_index_or}
 use Rattle.terms.specs.declared.refusal.Refusal.{Refusal}
 use Rattle.terms.specs.Refusals.{first}
 use Rattle.tie_rules.specs.Sharing.{Sharing}
@@ -12,7 +12,6 @@ use Rattle.rules.specs.declared.hedge.Line.{Line}
 use Rattle.rules.specs.Rules.{Told, quietly, tests, step}
 use Rattle.rules.specs.declared.auction.TicketName.{TicketName}
 use Rattle.rules.specs.declared.auction.Bid.{Bid}
-use Rattle.rules.specs.declared.hedge.Desk.{Desk}
 use Rattle.rules.specs.Books.{Auction, Books, posted}
 use Rattle.std.specs.List.{AllByRecursion as All}
 use Rattle.portfolio.specs.Fitting.{Payable}

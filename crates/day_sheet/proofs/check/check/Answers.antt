@@ -4,4 +4,4 @@ use Rattle.day_sheet.proofs.Returns.{reads_back, writes_again}
 use Rattle.day_sheet.proofs.check.check.Goals as goal
 
 pub returns : goal.returns
-returns c = record { verdict = c.count-records.ensures; alone = one-verdict; list = one_list; spelling = one-spelling; readings = one-reading; back = reads_back; again = writes_again }
+returns c = record { verdict = c.count_records.ensures; alone = one-verdict; list = one_list; spelling = one-spelling; readings = one-reading; back = reads_back; again = writes_again }

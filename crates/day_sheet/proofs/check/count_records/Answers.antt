@@ -21,4 +21,4 @@ returns-in-Err c =
     along_fault c.args.sheet.now c.loop-next.reader c.next.new.self c.loop-next.records c.in-Err.fault c.loop-next.invariant (subst P c.in-Err.is c.in-Some.ensures)
 
 pub returns : goal.returns
-returns c = along_end c.args.sheet.now c.loop-next.reader c.next.new.self c.loop-next.records c.loop-next.invariant c.in-default.ensures
+returns c = along_end c.args.sheet.now c.loop-next.reader c.next.new.self c.loop-next.records c.loop-next.invariant c.in_default.ensures

@@ -6,12 +6,12 @@ use Rattle.day_sheet.specs.Writings.{holdable}
 use Rattle.day_sheet.proofs.Held.{held_step, held_stop}
 use Rattle.day_sheet.proofs.entry.all_holdable.Goals as goal
 
-pub returns-then-not-is-holdable : goal.returns-then-not-is-holdable
-returns-then-not-is-holdable c =
+pub returns-then-not-is_holdable : goal.returns-then-not-is_holdable
+returns-then-not-is_holdable c =
     let xs = c.args.numbers.now in
     let i = c.loop-number.number-index in
     let f : SFits w64 (get_or c.args.numbers.now c.loop-number.number-index (pos 0)) = search rules in
-    let t = c.if-not-is-holdable.ensures in
+    let t = c.if-not-is_holdable.ensures in
     held_stop xs i c.loop-number-test.true (simp to_z-of_z at t) c.loop-number.invariant
 
 pub loop-number-preserved : goal.loop-number-preserved
@@ -19,7 +19,7 @@ loop-number-preserved c =
     let xs = c.args.numbers.now in
     let i = c.loop-number.number-index in
     let f : SFits w64 (get_or c.args.numbers.now c.loop-number.number-index (pos 0)) = search rules in
-    let t = c.if-not-is-holdable.ensures in
+    let t = c.if-not-is_holdable.ensures in
     held_step xs i c.loop-number-test.true (simp to_z-of_z at t) c.loop-number.invariant
 
 pub returns : goal.returns

@@ -13,8 +13,8 @@ natural-requires c =
     let f : SFits w64 (get_or c.args.numbers.now c.loop-number.number-index (pos 0)) = search rules in
     simp to_z-of_z (held_at xs i c.loop-number-test.true c.requires.held)
 
-pub overflow-add-size : goal.overflow-add-size
-overflow-add-size c =
+pub overflow_add-size : goal.overflow_add-size
+overflow_add-size c =
     let xs = c.args.numbers.now in
     let i = c.loop-number.number-index in
     let f : SFits w64 (get_or c.args.numbers.now c.loop-number.number-index (pos 0)) = search rules in

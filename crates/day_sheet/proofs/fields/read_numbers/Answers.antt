@@ -6,11 +6,11 @@ use Rattle.day_sheet.proofs.fields.read_numbers.Goals as goal
 pub loop-i-init : goal.loop-i-init
 loop-i-init c = (refl, ([], refl, spelt_start c.args.bytes.now))
 
-pub overflow-cast-numbers : goal.overflow-cast-numbers
-overflow-cast-numbers c = omega (arith, short-fits c.in-Number.value c.in-Number.ensures.0.0)
+pub overflow_cast-numbers : goal.overflow_cast-numbers
+overflow_cast-numbers c = omega (arith, short-fits c.in-Number.value c.in-Number.ensures.0.0)
 
-pub overflow-add-at : goal.overflow-add-at
-overflow-add-at c =
+pub overflow_add-at : goal.overflow_add-at
+overflow_add-at c =
     let n = c.in-Number.ensures in
     let room = begins_room c.args.bytes.now c.loop-i.at c.in-Number.value c.in-Number.length n.0 n.1 in
     omega arith

@@ -2,8 +2,8 @@ use Rattle.std.proofs.Common.{◌/◌, length, sym, ap, arith}
 use Rattle.day_sheet.proofs.Spelling.{groups-small, groups-large, groups-most}
 use Rattle.day_sheet.proofs.groups.+count.Goals as goal
 
-pub overflow-add-result : goal.overflow-add-result
-overflow-add-result t c = omega (arith, c.count.ensures, groups-most (c.args.number / 128))
+pub overflow_add-result : goal.overflow_add-result
+overflow_add-result t c = omega (arith, c.count.ensures, groups-most (c.args.number / 128))
 
 pub returns-then-number-lt128 : goal.returns-then-number-lt128
 returns-then-number-lt128 t c = sym (ap length (groups-small c.args.number (omega arith)))

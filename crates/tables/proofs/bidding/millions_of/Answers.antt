@@ -1,4 +1,4 @@
-use Rattle.std.proofs.Common.{arith, rules}
+use Rattle.std.proofs.Common.{rules}
 use Rattle.tables.proofs.Bids.{millions-more, millions-all}
 use Rattle.tables.proofs.bidding.millions_of.Goals as goal
 

@@ -9,8 +9,8 @@ use Rattle.tables.proofs.deals.issue_all.Goals as goal
 pub loop-i-init : goal.loop-i-init
 loop-i-init c = record { hedges = refl; places = refl; numbers = refl }
 
-pub issue-one-requires : goal.issue-one-requires
-issue-one-requires c =
+pub issue_one-requires : goal.issue_one-requires
+issue_one-requires c =
     let p = c.args.portfolio.now in
     let less : c.loop-i.i < length c.args.dollars.now = omega (arith, c.requires.sizes) in
     let room = issuing_room c.args.day c.args.rate c.args.terms c.args.bids.now c.args.dollars.now (placed_of p) p.numbered c.loop-i.i (placed_of c.loop-i.portfolio) c.loop-i.portfolio.numbered less c.requires.room.0 c.requires.room.1 c.loop-i.invariant in
@@ -24,7 +24,7 @@ issue-one-requires c =
 pub loop-i-preserved : goal.loop-i-preserved
 loop-i-preserved c =
     let p = c.args.portfolio.now in
-    issuing_more c.args.day c.args.rate c.args.terms c.args.bids.now c.args.dollars.now (placed_of p) p.numbered c.loop-i.i (placed_of c.loop-i.portfolio) c.loop-i.portfolio.numbered (placed_of c.issue-one.new.portfolio) c.issue-one.new.portfolio.numbered c.requires.sizes c.loop-i-test.true c.issue-one.ensures.hedges c.issue-one.ensures.numbered c.loop-i.invariant
+    issuing_more c.args.day c.args.rate c.args.terms c.args.bids.now c.args.dollars.now (placed_of p) p.numbered c.loop-i.i (placed_of c.loop-i.portfolio) c.loop-i.portfolio.numbered (placed_of c.issue_one.new.portfolio) c.issue_one.new.portfolio.numbered c.requires.sizes c.loop-i-test.true c.issue_one.ensures.hedges c.issue_one.ensures.numbered c.loop-i.invariant
 
 pub returns : goal.returns
 returns c =

@@ -14,6 +14,6 @@ returns c =
     let none = issue_room x.institution c.args.dollars p s.some s.institution c.requires.dollars.0 c.requires.dollars.1 c.requires.room.0 c.requires.room.1 in
     let with = λ (u : ℕ). placed_of p ++ (fresh c.args.day (next_deal x.institution c.args.dollars u c.args.terms.maturity p) ∷ []) in
     record {
-      hedges = c.issue.ensures.hedges ∙ ap (λ o. unless_refused o (with c.assigned-rate-assigned.result.units) (placed_of p)) none ∙ ap with c.assigned-rate-assigned.ensures;
+      hedges = c.issue.ensures.hedges ∙ ap (λ o. unless_refused o (with c.assigned_rate-assigned.result.units) (placed_of p)) none ∙ ap with c.assigned_rate-assigned.ensures;
       numbered = c.issue.ensures.numbered ∙ ap (λ o. unless_refused o (suc p.numbered) p.numbered) none;
     }

@@ -14,7 +14,7 @@ returns-in-Some c =
     let n = length-take k.taken k.bids in
     let sizes : length (take k.taken k.bids) ≡ length c.args.dollars.now = omega (arith, k.sized.0, k.few.0, c.requires.sizes) in
     issues_refused k c.args.standing c.args.dollars.now sizes c.in-Some.why
-    (c.in-Some.ensures.number ∙ ap (λ m. first (room_tests (length (placed_of k.portfolio)) k.portfolio.numbered m)) c.count-given-count.ensures.count)
+    (c.in-Some.ensures.number ∙ ap (λ m. first (room_tests (length (placed_of k.portfolio)) k.portfolio.numbered m)) c.count_given-count.ensures.count)
 
 pub returns : goal.returns
 returns c =
@@ -24,9 +24,9 @@ returns c =
     let n = length-take k.taken k.bids in
     let sizes : length (take k.taken k.bids) ≡ length ds = omega (arith, k.sized.0, k.few.0, c.requires.sizes) in
     let all : k.taken - 0 ≡ k.taken = omega arith in
-    let p = c.issue-all.new.portfolio in
-    issues_made k a ds sizes c.close-auction.new.self (placed_of p) p.numbered c.count-given-count.result c.publication-of-publication.result c.count-given-count.ensures.count c.in-default.ensures.number c.publication-of-publication.ensures
-    (c.issue-all.ensures.hedges ∙ ap (λ m. placed_of k.portfolio ++ map (fresh k.day) (deals_of k.portfolio.numbered k.rate a.terms (take m k.bids) ds)) all)
-    c.issue-all.ensures.numbered
-    (λ balance free. c.close-auction.ensures.books balance free ∙ ap (λ m. closed (placed_of p) p.numbered (k.matured - taken_off a.terms.kind m) (books_of balance free k)) c.sum.ensures)
-    c.close-auction.ensures.plan
+    let p = c.issue_all.new.portfolio in
+    issues_made k a ds sizes c.close_auction.new.self (placed_of p) p.numbered c.count_given-count.result c.publication_of-publication.result c.count_given-count.ensures.count c.in_default.ensures.number c.publication_of-publication.ensures
+    (c.issue_all.ensures.hedges ∙ ap (λ m. placed_of k.portfolio ++ map (fresh k.day) (deals_of k.portfolio.numbered k.rate a.terms (take m k.bids) ds)) all)
+    c.issue_all.ensures.numbered
+    (λ balance free. c.close_auction.ensures.books balance free ∙ ap (λ m. closed (placed_of p) p.numbered (k.matured - taken_off a.terms.kind m) (books_of balance free k)) c.sum.ensures)
+    c.close_auction.ensures.plan

@@ -21,8 +21,8 @@ returns-in-None c =
     let lt : nat_abs c.args.institution < length k.desks = omega (arith, ints, q.0, q.1) in
     record { steps = simp to_z-of_z (desk_written k (Lodge c.args.institution c.args.centavos) (nat_abs c.args.institution) _ lt (simp to_z-of_z at c.in-None.ensures.number) (λ T C balance free. refl)); plan = refl }
 
-pub invariant-of-self : goal.invariant-of-self
-invariant-of-self c =
+pub invariant_of-self : goal.invariant_of-self
+invariant_of-self c =
     let k = c.args.self.now in
     let i = nat_abs (back c.args.institution) in
-    ((k.sized.0, length-set k.desks i _ ∙ k.sized.1), (k.few, (k.dated, (k.sound, (required_set k.desks i _ 2560000000000000 k.required (k.required i), tt)))))
+    record { sized = (k.sized.0, length-set k.desks i _ ∙ k.sized.1); few = k.few; dated = k.dated; sound = k.sound; required = required_set k.desks i _ 2560000000000000 k.required (k.required i) }
