@@ -1,6 +1,6 @@
 -- Each bid stands beside what it gets, which is at most what it names.
 use Rattle.std.proofs.Common.{◌≡◌, ℕ, ◌-◌, ◌*◌, ◌≤◌, List, [], ◌∷◌, ◌++◌, map, length, refl, ap, ◌∙◌, subst, ap₂, arith, length-append}
-use Rattle.std.specs.List.{AllZip, AllByRecursion as All}
+use Rattle.std.specs.List.{AllZip, AllByRecursion}
 use Rattle.std.proofs.ByRecursion.{All-map, All-weaker, All-append}
 use Rattle.std.proofs.lemmas.List.{length-map, map-append}
 use Rattle.tie_rules.specs.Sharing.{Sharing}
@@ -13,16 +13,16 @@ use Rattle.allotment.specs.Allotting.{dollars_of}
 use Rattle.allotment.proofs.Ranges.{Ranged}
 
 -- what a group of bids in range is served
-pub group_served : (T : Sharing) (left : ℕ) (g : List Bid) → length g ≤ 64 → left ≤ 2000000000 → All Ranged g → Served left (map named g) (served T left (map named g))
+pub group_served : (T : Sharing) (left : ℕ) (g : List Bid) → length g ≤ 64 → left ≤ 2000000000 → AllByRecursion Ranged g → Served left (map named g) (served T left (map named g))
 group_served T left g few most sound =
     served-ok T left (map named g) (omega (arith, length-map g named)) (All-map (λ a. (1 ≤ a) × (a ≤ 2000000000)) named g (All-weaker Ranged (λ x. (1 ≤ named x) × (named x ≤ 2000000000)) (λ x r. omega arith) g sound)) most
 
 -- groups that are allotted: whose the dollars are, and how many
 record Shared (gs : List (List Bid)) (out : List Got) : Type 0 where
   whose : map (λ x. x.of) out ≡ flat gs
-  no_more : All (λ x. x.dollars ≤ named x.of) out
+  no_more : AllByRecursion (λ x. x.dollars ≤ named x.of) out
 
-shared : (T : Sharing) (left : ℕ) (gs : List (List Bid)) → left ≤ 2000000000 → length (flat gs) ≤ 64 → All (All Ranged) gs → Shared gs (allot T left gs)
+shared : (T : Sharing) (left : ℕ) (gs : List (List Bid)) → left ≤ 2000000000 → length (flat gs) ≤ 64 → AllByRecursion (AllByRecursion Ranged) gs → Shared gs (allot T left gs)
 shared T left [] most few sound = record { whose = refl; no_more = tt }
 shared T left (g ∷ gs) most few sound =
     let len = length-append g (flat gs) in
@@ -38,11 +38,11 @@ pairs : (out : List Got) → out ≡ paired (map (λ x. x.of) out) (map (λ x. x
 pairs [] = refl
 pairs (x ∷ out) = ap (λ ys. x ∷ ys) (pairs out)
 
-each_dollars : (out : List Got) → All (λ x. x.dollars ≤ named x.of) out → AllZip ◌≤◌ (map (λ x. x.dollars) out) (map named (map (λ x. x.of) out))
+each_dollars : (out : List Got) → AllByRecursion (λ x. x.dollars ≤ named x.of) out → AllZip ◌≤◌ (map (λ x. x.dollars) out) (map named (map (λ x. x.of) out))
 each_dollars [] h = tt
 each_dollars (x ∷ out) h = (h.0, each_dollars out h.1)
 
-module _ (T : Sharing) (t : Terms) (xs : List Bid) (most : t.offer ≤ 2000) (few : length xs ≤ 64) (sound : All Ranged xs) where
+module _ (T : Sharing) (t : Terms) (xs : List Bid) (most : t.offer ≤ 2000) (few : length xs ≤ 64) (sound : AllByRecursion Ranged xs) where
   whole : Shared (prices xs) (allotted T t xs)
   whole = shared T (1000000 * t.offer) (prices xs) (omega arith) (omega (arith, ap length (prices-flat xs))) (prices-all Ranged xs sound)
 

@@ -1,7 +1,7 @@
 -- The bids are looked at in turn, and those whose millions are in range name as many dollars as a tie rule may be asked for.
 use Rattle.std.proofs.Common.{◌≡◌, ℕ, zero, suc, ◌+◌, ◌<◌, ◌≤◌, true, false, ◌&&◌, List, [], ◌∷◌, length, get_or, take, drop, pos, sym, refl, ap, ◌∙◌, arith}
 use lib.Signed.{le_z}
-use Rattle.std.specs.List.{AllByRecursion as All, list_all}
+use Rattle.std.specs.List.{AllByRecursion, list_all}
 use Rattle.std.proofs.lemmas.List.{at_drop_more, at_drop_all}
 use Rattle.std.proofs.lemmas.Int.{ints}
 use Rattle.std.proofs.lemmas.Bool.{and_parts, and_from}
@@ -28,7 +28,7 @@ looked_all xs i h inv = sym (at_drop_all (list_all in_range) xs i h) ∙ inv
 abbrev pub Ranged : Bid → Type 0
 Ranged x = (1 ≤ x.millions) × (x.millions ≤ 2000)
 
-pub ranged : (xs : List Bid) → list_all in_range xs ≡ true → All Ranged xs
+pub ranged : (xs : List Bid) → list_all in_range xs ≡ true → AllByRecursion Ranged xs
 ranged [] e = tt
 ranged (x ∷ xs) e =
     let p = and_parts (in_range x) (list_all in_range xs) e in

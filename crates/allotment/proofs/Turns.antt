@@ -1,7 +1,7 @@
 -- One price after the other.
 use Rattle.std.proofs.Common.{◌≡◌, ℕ, ◌+◌, ◌-◌, ◌*◌, ◌<◌, ◌≤◌, List, [], ◌++◌, map, length, take, drop, sym, refl, ap, ◌∙◌, arith}
 use borrow.Rule.Slice.PartMut.{put_mid}
-use Rattle.std.specs.List.{AllByRecursion as All}
+use Rattle.std.specs.List.{AllByRecursion}
 use Rattle.std.proofs.ByRecursion.{All-take, All-drop}
 use Rattle.std.proofs.lemmas.List.{length-take, length-drop, map-append, append_assoc, append-nil, take_all, drop-drop, at_drop_all}
 use Rattle.std.proofs.lemmas.Slice.{take-put_mid}
@@ -21,7 +21,7 @@ abbrev pub gets : Sharing → ℕ → List Bid → List ℕ
 gets T left xs = map (λ x. x.dollars) (allot T left (prices xs))
 
 -- the first group gets what is served to it, and the others get of what is left
-pub gets-group : (T : Sharing) (left : ℕ) (xs : List Bid) → 0 < length xs → length xs ≤ 64 → left ≤ 2000000000 → All Ranged xs
+pub gets-group : (T : Sharing) (left : ℕ) (xs : List Bid) → 0 < length xs → length xs ≤ 64 → left ≤ 2000000000 → AllByRecursion Ranged xs
     → gets T left xs ≡ served T left (map named (take (group_size xs) xs)) ++ gets T (left - total (map named (take (group_size xs) xs))) (drop (group_size xs) xs)
 gets-group T left xs some few most sound =
     let g = take (group_size xs) xs in

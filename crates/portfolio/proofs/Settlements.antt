@@ -1,6 +1,6 @@
 -- A settlement, hedge by hedge.
 use Rattle.std.proofs.Common.{◌≡◌, ℕ, ◌+◌, ◌<◌, ◌≤◌, Bool, true, false, cond, List, [], ◌∷◌, ◌++◌, map, length, get_or, take, drop, set, Some, None, filter, Option, sym, refl, ap, ◌∙◌, ap₂, arith, length-set, length-take}
-use Rattle.std.specs.List.{AllByRecursion as All}
+use Rattle.std.specs.List.{AllByRecursion}
 use Rattle.std.proofs.lemmas.List.Elements.{filter_more}
 use Rattle.std.proofs.lemmas.List.{append_assoc, append-nil, drop_more, drop-set-lt, length-map, length-append, map-append, map_more, set_at, take_more_set}
 use Rattle.conventions.specs.Deciding.{Deciding}
@@ -101,6 +101,6 @@ module _ (C : Deciding) (day r : ℕ) where
     passed_lines = p.told ∙ ap₂ (λ (ys : List Hedge) (k : ℕ). lines_of ys ++ drop k ls) p.kept passed_count
 
 -- the lines of sound hedges can be posted
-pub payable_lines : (r low high : ℕ) (xs : List Hedge) → r ≤ 999999 → is_sound low high xs ≡ true → All Payable (map (line_of r) xs)
+pub payable_lines : (r low high : ℕ) (xs : List Hedge) → r ≤ 999999 → is_sound low high xs ≡ true → AllByRecursion Payable (map (line_of r) xs)
 payable_lines r low high [] l h = tt
 payable_lines r low high (x ∷ xs) l h = let p = headed low high x xs h in (line-payable r x l p.fit, payable_lines r x.deal.number high xs l p.rest)

@@ -1,5 +1,5 @@
 ghost use Rattle.std.specs.Prelude.{◌≡◌, ℕ, ◌<◌, ◌≤◌, true, ◌++◌, map, length, take, drop, if◌then◌else◌, Some, None, filter, OnOk, unsigned_abs};
-ghost use Rattle.std.specs.List.{AllByRecursion as All};
+ghost use Rattle.std.specs.List.{AllByRecursion};
 ghost use Rattle.rules.specs.Settlement.{line_of, open_ones, pays, turned, worth};
 ghost use Rattle.portfolio.specs.Settling.{counted, laid_over, paid_lines, room_tests, all_settled_at, settled_one, with_line};
 ghost use Rattle.terms.specs.Refusals.{answered, first, unless_refused};
@@ -148,7 +148,7 @@ impl Portfolio {
         ensures count { result ≡ length (paid_lines (C.Convention.meaning convention.now) day rate.units (placed_of self.old)) }
         ensures hedges { placed_of self.new ≡ all_settled_at (C.Convention.meaning convention.now) day rate.units (placed_of self.old) }
         ensures lines { lines.new ≡ laid_over (paid_lines (C.Convention.meaning convention.now) day rate.units (placed_of self.old)) lines.old }
-        ensures payable { All Payable (paid_lines (C.Convention.meaning convention.now) day rate.units (placed_of self.old)) }
+        ensures payable { AllByRecursion Payable (paid_lines (C.Convention.meaning convention.now) day rate.units (placed_of self.old)) }
         ensures numbered { self.new.numbered ≡ self.old.numbered }
     {
         let placed = keep_open(&mut self.hedges, self.placed);
@@ -168,7 +168,7 @@ impl Portfolio {
         ensures count { result ≡ answered (first (room_tests (length lines.old))) (length (paid_lines (C.Convention.meaning convention.now) day rate.units (placed_of self.old))) }
         ensures hedges { placed_of self.new ≡ unless_refused (first (room_tests (length lines.old))) (all_settled_at (C.Convention.meaning convention.now) day rate.units (placed_of self.old)) (placed_of self.old) }
         ensures lines { lines.new ≡ unless_refused (first (room_tests (length lines.old))) (laid_over (paid_lines (C.Convention.meaning convention.now) day rate.units (placed_of self.old)) lines.old) lines.old }
-        ensures payable { OnOk result (All Payable (paid_lines (C.Convention.meaning convention.now) day rate.units (placed_of self.old))) }
+        ensures payable { OnOk result (AllByRecursion Payable (paid_lines (C.Convention.meaning convention.now) day rate.units (placed_of self.old))) }
         ensures numbered { self.new.numbered ≡ self.old.numbered }
     {
         if lines.len() < MOST_LINES {
