@@ -1,6 +1,6 @@
 -- A sheet has one verdict. Assumes nothing.
 use Rattle.std.proofs.Common.{◌≡◌, ℕ, ◌+◌, Bool, true, false, eqb, List, [], ◌∷◌, ◌++◌, length, Some, None, Ok, Err, Option, sym, refl, ap, ◌∙◌, subst, inl, inr, arith}
-use Rattle.std.specs.List.{flat_map, AllByRecursion as All}
+use Rattle.std.specs.List.{flat_map, AllByRecursion}
 use Rattle.std.proofs.lemmas.List.{append_assoc, append-nil, length-append}
 use Rattle.std.proofs.lemmas.Bool.{ne_eqb}
 use Rattle.day_sheet.specs.declared.fault.Stop.{Stop}
@@ -24,7 +24,7 @@ abbrev Order : Bool → List Entry → Type 0
 Order first [] = Unit {0}
 Order first (e ∷ es) = (is_start e.letter ≡ first) × Order false es
 
-order_rest : (es : List Entry) → All (λ e. is_start e.letter ≡ false) es → Order false es
+order_rest : (es : List Entry) → AllByRecursion (λ e. is_start e.letter ≡ false) es → Order false es
 order_rest [] h = tt
 order_rest (e ∷ es) h = (h.0, order_rest es h.1)
 
@@ -56,7 +56,7 @@ halts_here : (first : Bool) (rest x : List ℕ) (e : Entry) (o : Option Stop) �
 halts_here first rest x e None s f same h = omega (arith, ap length (sym h.1 ∙ same), length-append (spell e) x)
 halts_here first rest x e (Some t) s f same h = not-both first e rest x t s f same h
 
-pub alone : (first : Bool) (es fs : List Entry) (x y : List ℕ) (o p : Option Stop) → Order first es → Order first fs → All Sound es → All Sound fs → Halts (next_first first es) x o → Halts (next_first first fs) y p → flat_map spell es ++ x ≡ flat_map spell fs ++ y → (es ≡ fs) × (o ≡ p)
+pub alone : (first : Bool) (es fs : List Entry) (x y : List ℕ) (o p : Option Stop) → Order first es → Order first fs → AllByRecursion Sound es → AllByRecursion Sound fs → Halts (next_first first es) x o → Halts (next_first first fs) y p → flat_map spell es ++ x ≡ flat_map spell fs ++ y → (es ≡ fs) × (o ≡ p)
 alone first [] [] x y o p oe of se sf h k same =
     let P : List ℕ → Type 0 = λ r. Halts first r p in
     (refl, halts_alone first x o p h (subst P (sym same) k))
@@ -76,7 +76,7 @@ alone first (e ∷ es) (f ∷ fs) x y o p oe of se sf h k same =
 pub record Read (sheet : List ℕ) (o : Option Stop) : Type 0 where
   pub es : List Entry
   pub order : StartFirst es
-  pub sound : All Sound es
+  pub sound : AllByRecursion Sound es
   pub rest : List ℕ
   pub spelled : sheet ≡ flat_map spell es ++ rest
   pub halts : Halts (next_first true es) rest o

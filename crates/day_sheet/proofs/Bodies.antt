@@ -1,6 +1,6 @@
 -- A record's fields: the first fault, and the record read off them. Assumes nothing.
 use Rattle.std.proofs.Common.{◌≡◌, ℕ, ◌+◌, ◌-◌, ◌≤◌, List, [], ◌∷◌, ◌++◌, map, length, get_or, take, drop, ℤ, pos, ◌≤ℤ◌, Some, Err, sym, refl, ap, ◌∙◌, subst, arith}
-use Rattle.std.specs.List.{flat_map, AllByRecursion as All}
+use Rattle.std.specs.List.{flat_map, AllByRecursion}
 use Rattle.std.proofs.lemmas.List.{append_assoc, length-append, length-drop, length-map, length-take-le, take_rest}
 use Rattle.std.proofs.ByRecursion.{All-append}
 use Rattle.std.proofs.lemmas.Int.{ints}
@@ -164,7 +164,7 @@ whole l body start r kept at k e is t ends letter numbers b =
     read_as l body start r kept t.ns at e t.read t.spelt (subst P is (subst Q (take_rest body at) ends)) letter (numbers ∙ ap (take (numbers_in l)) (sym (four kept e))) (subst R (take_rest body at) b)
 
 -- ---- a run of numbers has no broken one
-pub unbroken : (ns ms rest : List ℕ) → All Short ns → All Short ms → flat_map groups ns ++ rest ≡ flat_map groups ms → Broken rest → ⊥
+pub unbroken : (ns ms rest : List ℕ) → AllByRecursion Short ns → AllByRecursion Short ms → flat_map groups ns ++ rest ≡ flat_map groups ms → Broken rest → ⊥
 unbroken [] [] rest sn sm e b = b.0 e
 unbroken [] (m ∷ ms) rest sn sm e b = b.1 m (flat_map groups ms) (sm.0, e)
 unbroken (n ∷ ns) [] rest sn sm e b =

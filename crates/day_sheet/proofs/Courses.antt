@@ -1,6 +1,6 @@
 -- A sheet read to its end or to its first fault. Assumes nothing.
 use Rattle.std.proofs.Common.{◌≡◌, ℕ, ◌+◌, ◌-◌, ◌<◌, ◌≤◌, false, eqb, ◌⊎◌, List, [], ◌∷◌, ◌++◌, length, drop, Ok, Err, sym, ap, ◌∙◌, subst, inl, inr, arith}
-use Rattle.std.specs.List.{flat_map, AllByRecursion as All}
+use Rattle.std.specs.List.{flat_map, AllByRecursion}
 use Rattle.std.proofs.lemmas.List.{append_assoc, append-nil, drop_all, flat_map_more, length-append, length_push}
 use Rattle.std.proofs.ByRecursion.{All-push}
 use Rattle.std.proofs.lemmas.Bool.{cases_lt, cases_eq, ne_eqb}
@@ -22,7 +22,7 @@ pub record Along (sheet : List ℕ) (d : Reader) (records : ℕ) : Type 0 where
   pub place : d.at ≡ length (flat_map spell es)
   pub count : d.records ≡ length es
   pub told : records ≡ length es
-  pub sound : All Sound es
+  pub sound : AllByRecursion Sound es
   pub order : StartFirst es
   pub size : 1 ≤ length es → length sheet ≤ 65536
 

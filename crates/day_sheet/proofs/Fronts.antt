@@ -1,6 +1,6 @@
 -- A record's letter and length, read at a place of the sheet. Assumes nothing.
 use Rattle.std.proofs.Common.{◌≡◌, ℕ, ◌+◌, ◌-◌, ◌^◌, ◌<◌, ◌≤◌, Bool, true, false, not, List, ◌∷◌, ◌++◌, length, get_or, take, drop, sym, ap, ◌∙◌, subst, arith}
-use mathlib.Core.Bool.{beq}
+use Rattle.std.specs.Bool.{beq}
 use Rattle.std.specs.List.{flat_map}
 use Rattle.std.proofs.lemmas.List.{append_assoc, drop_all, drop-drop, drop_more, length-append, length-drop, length-take-le, take-append-drop}
 use Rattle.day_sheet.specs.declared.letter.Letter.{Letter}

@@ -1,6 +1,6 @@
 -- Numbers that a sheet can hold, and their spellings side by side. Assumes nothing.
 use Rattle.std.proofs.Common.{◌≡◌, ℕ, zero, suc, ◌+◌, ◌*◌, ◌<◌, ◌≤◌, true, false, ◌&&◌, leb, ◌⊎◌, List, [], ◌∷◌, ◌++◌, map, length, get_or, take, drop, ℤ, pos, negsuc, nat_abs, sym, refl, ap, ◌∙◌, inl, inr, arith, w64, SFits}
-use lib.Signed.{le_z}
+use Rattle.std.specs.Prelude.{int_le}
 use Rattle.std.specs.List.{list_all, flat_map}
 use Rattle.std.proofs.lemmas.List.{append-nil, at_drop_more, length-append, map-append, map_more, take-append-drop}
 use Rattle.std.proofs.lemmas.Int.{ints}
@@ -14,10 +14,10 @@ use Rattle.day_sheet.proofs.Bodies.{joined_append}
 use Rattle.day_sheet.proofs.Overlays.{written-more}
 
 -- a number of 64 bits and a sign has at most nine groups, if it is not under nought
-pub holdable-is : (z : ℤ) → SFits w64 z → le_z (pos 0) z ≡ holdable z
+pub holdable-is : (z : ℤ) → SFits w64 z → int_le (pos 0) z ≡ holdable z
 holdable-is (pos n) f =
-    let z : le_z (pos 0) (pos n) ≡ true = le-leb 0 n (omega arith) in
-    z ∙ sym (and_from (le_z (pos 0) (pos n)) (leb (length (groups n)) 9) z (le-leb _ 9 (groups-few 8 n (omega (arith, ints)))))
+    let z : int_le (pos 0) (pos n) ≡ true = le-leb 0 n (omega arith) in
+    z ∙ sym (and_from (int_le (pos 0) (pos n)) (leb (length (groups n)) 9) z (le-leb _ 9 (groups-few 8 n (omega (arith, ints)))))
 holdable-is (negsuc n) f = refl
 
 pub held_natural : (z : ℤ) → holdable z ≡ true → z ≡ pos (nat_abs z)
@@ -25,7 +25,7 @@ held_natural (pos n) h = refl
 held_natural (negsuc n) h = absurd (grind arith)
 
 pub held_short : (z : ℤ) → holdable z ≡ true → Short (nat_abs z)
-held_short z h = leb-true _ 9 (and_parts (le_z (pos 0) z) _ h).1
+held_short z h = leb-true _ 9 (and_parts (int_le (pos 0) z) _ h).1
 
 pub held_at : (zs : List ℤ) (i : ℕ) → i < length zs → list_all holdable zs ≡ true → holdable (get_or zs i (pos 0)) ≡ true
 held_at [] i h e = absurd (omega arith)

@@ -1,7 +1,7 @@
 -- What can stand at a place of a sheet: one record, or one fault, and never both. Assumes nothing.
 use Rattle.std.proofs.Common.{◌≡◌, ℕ, zero, suc, ◌+◌, ◌-◌, ◌<◌, ◌≤◌, Bool, true, false, cond, eqb, ltb, List, [], ◌∷◌, ◌++◌, length, take, drop, Some, None, Option, sym, refl, ap, ◌∙◌, arith}
-use mathlib.Core.Bool.{beq}
-use Rattle.std.specs.List.{flat_map, AllByRecursion as All}
+use Rattle.std.specs.Bool.{beq}
+use Rattle.std.specs.List.{flat_map, AllByRecursion}
 use Rattle.std.proofs.lemmas.List.{append_assoc, append-nil, drop_at, take_at, length-append, length-take-le, take-append-drop}
 use Rattle.std.proofs.ByRecursion.{All-take, All-drop}
 use Rattle.std.proofs.lemmas.Bool.{cond-true, cond-false, lt-ltb, le-ltb, ne_eqb}
@@ -52,7 +52,7 @@ broken_none rest b = go (number_by 9 rest) refl
     go None e = e
     go (Some (n, len)) e = let s = number_spelled 9 rest n len e in absurd (b.1 n (drop len rest) (s.few, s.front))
 
-numbers-ahead : (ns : List ℕ) (count : ℕ) (rest : List ℕ) → All Short ns → numbers_for (length ns + count) (flat_map groups ns ++ rest) ≡ aheads ns (numbers_for count rest)
+numbers-ahead : (ns : List ℕ) (count : ℕ) (rest : List ℕ) → AllByRecursion Short ns → numbers_for (length ns + count) (flat_map groups ns ++ rest) ≡ aheads ns (numbers_for count rest)
 numbers-ahead [] count rest short = let e : 0 + count ≡ count = omega arith in ap (λ k. numbers_for k rest) e
 numbers-ahead (n ∷ ns) count rest short =
     let bytes = groups n ++ (flat_map groups ns ++ rest) in
@@ -82,12 +82,12 @@ aheads-lost (n ∷ ns) s =
     ∙ ap lost (later-later (length (groups n)) (length (flat_map groups ns)) s)
     ∙ ap (λ k. lost (later k s)) (sym (length-append (groups n) (flat_map groups ns)))
 
-numbers-got : (ns tail : List ℕ) (count : ℕ) → All Short ns → length ns ≡ count → numbers_for count (flat_map groups ns ++ tail) ≡ got ns tail
+numbers-got : (ns tail : List ℕ) (count : ℕ) → AllByRecursion Short ns → length ns ≡ count → numbers_for count (flat_map groups ns ++ tail) ≡ got ns tail
 numbers-got ns tail count short is =
     ap (λ k. numbers_for k (flat_map groups ns ++ tail)) (omega arith) ∙ numbers-ahead ns 0 tail short ∙ aheads-got ns tail
 
 -- fewer numbers than asked for, and then none
-numbers-lost : (ns rest : List ℕ) (count : ℕ) → All Short ns → length ns < count → number_by 9 rest ≡ None → numbers_for count (flat_map groups ns ++ rest) ≡ lost (later (length (flat_map groups ns)) (stop_at rest))
+numbers-lost : (ns rest : List ℕ) (count : ℕ) → AllByRecursion Short ns → length ns < count → number_by 9 rest ≡ None → numbers_for count (flat_map groups ns ++ rest) ≡ lost (later (length (flat_map groups ns)) (stop_at rest))
 numbers-lost ns rest count short few e =
     let k : count ≡ length ns + suc (count - length ns - 1) = omega arith in
     ap (λ c. numbers_for c (flat_map groups ns ++ rest)) k
@@ -124,7 +124,7 @@ later_if-more : (a b : ℕ) (o : Option Stop) → later_if a (later_if b o) ≡ 
 later_if-more a b None = refl
 later_if-more a b (Some s) = ap (λ s. Some s) (later-later a b s)
 
-run_ahead : (ms : List ℕ) (turns : ℕ) (rest : List ℕ) → All Short ms → run_stop (length ms + turns) (flat_map groups ms ++ rest) ≡ later_if (length (flat_map groups ms)) (run_stop turns rest)
+run_ahead : (ms : List ℕ) (turns : ℕ) (rest : List ℕ) → AllByRecursion Short ms → run_stop (length ms + turns) (flat_map groups ms ++ rest) ≡ later_if (length (flat_map groups ms)) (run_stop turns rest)
 run_ahead [] turns rest short = let e : 0 + turns ≡ turns = omega arith in ap (λ k. run_stop k rest) e ∙ sym (later_if-none (run_stop turns rest))
 run_ahead (m ∷ ms) turns rest short =
     let bytes = groups m ++ (flat_map groups ms ++ rest) in
@@ -159,7 +159,7 @@ run_whole tail (ms, short, e) =
     ∙ run_ahead ms (length tail - length ms) [] short
     ∙ ap (later_if (length (flat_map groups ms))) (run_empty (length tail - length ms))
 
-run_stops : (tail ms rest : List ℕ) → All Short ms → tail ≡ flat_map groups ms ++ rest → Broken rest → run_stop (length tail) tail ≡ Some (Number (length (flat_map groups ms)))
+run_stops : (tail ms rest : List ℕ) → AllByRecursion Short ms → tail ≡ flat_map groups ms ++ rest → Broken rest → run_stop (length tail) tail ≡ Some (Number (length (flat_map groups ms)))
 run_stops tail ms rest short e b =
     let f = some_bytes rest b.0 in
     let t = length tail - length ms - 1 in
@@ -206,7 +206,7 @@ fields-got e c =
     ap (finished e.letter) (numbers-got e.numbers e.tail (numbers_in e.letter) c.short c.count)
     ∙ ap (ended e.numbers e.tail) (end_whole (ending_of e.letter) e.tail c.ends)
 
-fields-end : (l : Letter) (body ns rest : List ℕ) (k : Ending) (s : Stop) → All Short ns → body ≡ flat_map groups ns ++ rest → length ns ≡ numbers_in l → ending_of l ≡ k → end_stop k rest ≡ Some s → fields_out l body ≡ lost (later (length (flat_map groups ns)) s)
+fields-end : (l : Letter) (body ns rest : List ℕ) (k : Ending) (s : Stop) → AllByRecursion Short ns → body ≡ flat_map groups ns ++ rest → length ns ≡ numbers_in l → ending_of l ≡ k → end_stop k rest ≡ Some s → fields_out l body ≡ lost (later (length (flat_map groups ns)) s)
 fields-end l body ns rest k s short e count is stop =
     ap (fields_out l) e
     ∙ ap (finished l) (numbers-got ns rest (numbers_in l) short count)

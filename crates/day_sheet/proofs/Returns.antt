@@ -1,7 +1,7 @@
 -- What was written can be read back, and what was read is written the same. Assumes nothing.
 use Rattle.std.proofs.Common.{◌≡◌, ℕ, ◌+◌, min, Bool, true, false, not, ◌&&◌, eqb, List, [], ◌∷◌, map, length, ℤ, pos, nat_abs, None, refl, ap, ◌∙◌, arith}
-use mathlib.Core.Bool.{beq}
-use Rattle.std.specs.List.{list_all, AllByRecursion as All}
+use Rattle.std.specs.Bool.{beq}
+use Rattle.std.specs.List.{list_all, AllByRecursion}
 use Rattle.std.proofs.lemmas.List.{length-append, length-map}
 use Rattle.std.proofs.lemmas.Bool.{and_parts, or_parts, not-false, ltb-false}
 use Rattle.terms.specs.declared.refusal.Refusal.{Refusal}
@@ -30,7 +30,7 @@ beq_same true false e = absurd (grind arith)
 beq_same false true e = absurd (grind arith)
 beq_same false false e = refl
 
-all_short : (zs : List ℤ) → list_all holdable zs ≡ true → All Short (map nat_abs zs)
+all_short : (zs : List ℤ) → list_all holdable zs ≡ true → AllByRecursion Short (map nat_abs zs)
 all_short [] e = tt
 all_short (z ∷ zs) e = let p = and_parts (holdable z) (list_all holdable zs) e in (held_short z p.0, all_short zs p.1)
 

@@ -1,6 +1,6 @@
 -- What the reading of a record's fields answers. Assumes nothing.
 use Rattle.std.specs.Prelude.{◌≡◌, ℕ, ◌<◌, List, [], ◌++◌, map, length, take, drop, ℤ, pos, Some, None, Ok, Err, Option, Result}
-use Rattle.std.specs.List.{flat_map, AllByRecursion as All}
+use Rattle.std.specs.List.{flat_map, AllByRecursion}
 use Rattle.day_sheet.specs.declared.letter.Ending.{Ending}
 use Rattle.day_sheet.specs.declared.letter.Ending.TheVariants.{Nothing, Holidays, Reference}
 use Rattle.day_sheet.specs.declared.fault.Stop.{Stop}
@@ -11,7 +11,7 @@ use Rattle.day_sheet.specs.Records.{Run, Ends}
 
 -- the bytes up to a place spell these numbers
 pub record Spelt (numbers bytes : List ℕ) (at : ℕ) : Type 0 where
-  pub short : All Short numbers
+  pub short : AllByRecursion Short numbers
   pub front : bytes ≡ flat_map groups numbers ++ drop at bytes
   pub place : at ≡ length (flat_map groups numbers)
 
@@ -22,7 +22,7 @@ ReadOff read bytes at = (ns : List ℕ) × (read ≡ map pos ns) × Spelt ns byt
 -- so many numbers from the front on, or where they stop
 abbrev pub NumbersFrom : (bytes : List ℕ) (count : ℕ) → Result Numbered Stop → Type 0
 NumbersFrom bytes count (Ok n) = (length n.numbers ≡ 4) × ReadOff (take count n.numbers) bytes n.length
-NumbersFrom bytes count (Err Record) = (ns : List ℕ) × (length ns < count) × All Short ns × (bytes ≡ flat_map groups ns)
+NumbersFrom bytes count (Err Record) = (ns : List ℕ) × (length ns < count) × AllByRecursion Short ns × (bytes ≡ flat_map groups ns)
 NumbersFrom bytes count (Err (Number at)) = (ns : List ℕ) × (length ns < count) × Spelt ns bytes at × Broken (drop at bytes)
 
 -- a run of numbers to the end, or where it stops

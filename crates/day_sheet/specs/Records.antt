@@ -1,6 +1,6 @@
 -- How a record is spelled, and when it can be read. Assumes nothing.
 use Rattle.std.specs.Prelude.{◌≡◌, ℕ, ◌+◌, ◌<◌, ◌≤◌, Bool, true, List, [], ◌∷◌, ◌++◌, length, ◌≢◌}
-use Rattle.std.specs.List.{flat_map, AllByRecursion as All}
+use Rattle.std.specs.List.{flat_map, AllByRecursion}
 use Rattle.day_sheet.specs.declared.letter.Letter.{Letter}
 use Rattle.day_sheet.specs.declared.letter.Ending.{Ending}
 use Rattle.day_sheet.specs.declared.letter.Ending.TheVariants.{Nothing, Holidays, Reference}
@@ -26,7 +26,7 @@ spell e = byte_of e.letter ∷ (groups (length (fields e)) ++ fields e)
 
 -- a run of numbers, spelled side by side
 abbrev pub Run : List ℕ → Type 0
-Run bytes = (numbers : List ℕ) × All Short numbers × (bytes ≡ flat_map groups numbers)
+Run bytes = (numbers : List ℕ) × AllByRecursion Short numbers × (bytes ≡ flat_map groups numbers)
 
 -- what may follow the numbers: nothing, holidays, or a reference of at most 24 bytes
 abbrev pub Ends : Ending → List ℕ → Type 0
@@ -37,7 +37,7 @@ Ends Reference tail = length tail ≤ 24
 -- it has the numbers and the end that its letter asks for, each number in at most nine groups
 pub record Complete (e : Entry) : Type 0 where
   pub count : length e.numbers ≡ numbers_in e.letter
-  pub short : All Short e.numbers
+  pub short : AllByRecursion Short e.numbers
   pub ends : Ends (ending_of e.letter) e.tail
 
 -- a record that can stand on a sheet: it is complete, and its length too has at most nine groups
@@ -48,15 +48,15 @@ pub record Sound (e : Entry) : Type 0 where
 -- the first fault in the fields of a record of this letter
 pub data FieldsFault (l : Letter) (body : List ℕ) : Stop → Type 0 where
   -- the fields end before the letter's numbers do
-  missing : (ns : List ℕ) → All Short ns → body ≡ flat_map groups ns → length ns < numbers_in l → FieldsFault l body Record
+  missing : (ns : List ℕ) → AllByRecursion Short ns → body ≡ flat_map groups ns → length ns < numbers_in l → FieldsFault l body Record
   -- one of them is broken
-  broken : (ns rest : List ℕ) → All Short ns → body ≡ flat_map groups ns ++ rest → length ns < numbers_in l → Broken rest → FieldsFault l body (Number (length (flat_map groups ns)))
+  broken : (ns rest : List ℕ) → AllByRecursion Short ns → body ≡ flat_map groups ns ++ rest → length ns < numbers_in l → Broken rest → FieldsFault l body (Number (length (flat_map groups ns)))
   -- bytes are left over
-  left_over : (ns rest : List ℕ) → All Short ns → body ≡ flat_map groups ns ++ rest → length ns ≡ numbers_in l → ending_of l ≡ Nothing → (rest ≢ []) → FieldsFault l body Record
+  left_over : (ns rest : List ℕ) → AllByRecursion Short ns → body ≡ flat_map groups ns ++ rest → length ns ≡ numbers_in l → ending_of l ≡ Nothing → (rest ≢ []) → FieldsFault l body Record
   -- the reference is too long
-  long : (ns rest : List ℕ) → All Short ns → body ≡ flat_map groups ns ++ rest → length ns ≡ numbers_in l → ending_of l ≡ Reference → 24 < length rest → FieldsFault l body Record
+  long : (ns rest : List ℕ) → AllByRecursion Short ns → body ≡ flat_map groups ns ++ rest → length ns ≡ numbers_in l → ending_of l ≡ Reference → 24 < length rest → FieldsFault l body Record
   -- a holiday is broken
-  holiday : (ns rest : List ℕ) → All Short ns → body ≡ flat_map groups ns ++ rest → numbers_in l ≤ length ns → ending_of l ≡ Holidays → Broken rest → FieldsFault l body (Number (length (flat_map groups ns)))
+  holiday : (ns rest : List ℕ) → AllByRecursion Short ns → body ≡ flat_map groups ns ++ rest → numbers_in l ≤ length ns → ending_of l ≡ Holidays → Broken rest → FieldsFault l body (Number (length (flat_map groups ns)))
 
 -- the first fault of a record, as the sheet goes on from its letter; S has to be the first record, and no other
 pub data RecordFault (first : Bool) (bytes : List ℕ) : Stop → Type 0 where

@@ -1,6 +1,6 @@
 -- What a whole sheet is, and what is said of one that is none. Assumes nothing.
 use Rattle.std.specs.Prelude.{◌≡◌, ℕ, ◌+◌, ◌<◌, ◌≤◌, Bool, true, false, ◌⊎◌, List, [], ◌∷◌, ◌++◌, length, Ok, Err, Result, ◌==◌}
-use Rattle.std.specs.List.{flat_map, AllByRecursion as All}
+use Rattle.std.specs.List.{flat_map, AllByRecursion}
 use Rattle.day_sheet.specs.declared.fault.Stop.{Stop}
 use Rattle.day_sheet.specs.declared.fault.Fault.{Fault}
 use Rattle.day_sheet.specs.Letters.{is_start}
@@ -10,20 +10,20 @@ use Rattle.day_sheet.specs.Records.{Entry, spell, Sound, RecordFault}
 -- S is first, and only first
 abbrev pub StartFirst : List Entry → Type 0
 StartFirst [] = Unit {0}
-StartFirst (e ∷ es) = (is_start e.letter ≡ true) × All (λ e. is_start e.letter ≡ false) es
+StartFirst (e ∷ es) = (is_start e.letter ≡ true) × AllByRecursion (λ e. is_start e.letter ≡ false) es
 
 -- a sheet of these records: their spellings one after another, in at most 65,536 bytes
 pub record SheetOf (es : List Entry) (sheet : List ℕ) : Type 0 where
   pub some : 1 ≤ length es
   pub order : StartFirst es
-  pub sound : All Sound es
+  pub sound : AllByRecursion Sound es
   pub spelled : sheet ≡ flat_map spell es
   pub size : length sheet ≤ 65536
 
 -- these records stand on the sheet, and the next one is at fault
 pub record FaultAfter (es : List Entry) (sheet : List ℕ) (f : Fault) : Type 0 where
   pub order : StartFirst es
-  pub sound : All Sound es
+  pub sound : AllByRecursion Sound es
   pub rest : List ℕ
   pub spelled : sheet ≡ flat_map spell es ++ rest
   pub size : length sheet ≤ 65536
