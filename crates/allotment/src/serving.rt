@@ -1,7 +1,7 @@
 ghost use Rattle.std.specs.Prelude.{◌≡◌, ◌-◌, ◌<◌, ◌≤◌, true, map, length, take};
 ghost use Rattle.std.specs.List.{list_all};
 ghost use Rattle.rules.specs.Allotment.{named, served};
-ghost use Rattle.rules.specs.Books.{total as sum};
+ghost use Rattle.rules.specs.Books.{total as total_of};
 ghost use Rattle.allotment.specs.Allotting.{in_range};
 ghost use Rattle.tie_rules.specs.Sharing.{is_dollars};
 
@@ -16,7 +16,7 @@ fn name_dollars(group: &[Bid], amounts: &mut [u32]) -> u64
     requires placed { length group.now ≤ length amounts.old }
     requires ranged { list_all in_range group.now ≡ true }
     ensures written { take (length group.now) amounts.new ≡ map named group.now }
-    ensures total { result ≡ sum (map named group.now) }
+    ensures total { result ≡ total_of (map named group.now) }
 {
     let mut total: u64 = 0;
     for (i, bid) in group.iter().enumerate() {
@@ -41,7 +41,7 @@ fn share_tie<T: TieRule>(tie_rule: &T, amounts: &[u32], left: u32, dollars: &mut
     requires ranged { list_all is_dollars amounts.now ≡ true }
     requires some { 1 ≤ left }
     requires most { left ≤ 2000000000 }
-    requires short { left < sum amounts.now }
+    requires short { left < total_of amounts.now }
     ensures { dollars.new ≡ (T.TieRule.meaning tie_rule.now).shares amounts.now left }
 {
     let _ = tie_rule.share(amounts, left, dollars);
@@ -52,7 +52,7 @@ fn serve<T: TieRule>(tie_rule: &T, amounts: &[u32], total: u64, left: u32, dolla
     requires few { length amounts.now ≤ 64 }
     requires placed { length amounts.now ≡ length dollars.old }
     requires ranged { list_all is_dollars amounts.now ≡ true }
-    requires summed { total ≡ sum amounts.now }
+    requires summed { total ≡ total_of amounts.now }
     requires most { left ≤ 2000000000 }
     ensures { dollars.new ≡ served (T.TieRule.meaning tie_rule.now) left amounts.now }
 {
@@ -83,7 +83,7 @@ pub(crate) fn serve_group<T: TieRule>(
     requires ranged { list_all in_range group.now ≡ true }
     requires most { left ≤ 2000000000 }
     ensures written { dollars.new ≡ served (T.TieRule.meaning tie_rule.now) left (map named group.now) }
-    ensures rest { result ≡ left - sum (map named group.now) }
+    ensures rest { result ≡ left - total_of (map named group.now) }
 {
     let mut amounts = [0; 64];
     let total = name_dollars(group, &mut amounts);

@@ -1,5 +1,5 @@
 ghost use Rattle.std.specs.Prelude.{◌<◌, ◌≤◌, [], ◌∷◌, length};
-ghost use Rattle.std.specs.List.{AllByRecursion as All};
+ghost use Rattle.std.specs.List.{AllByRecursion};
 ghost use Rattle.portfolio.specs.Fitting.{Payable};
 ghost use Rattle.house.specs.Posting.{Posts};
 
@@ -17,7 +17,7 @@ pub(crate) fn post_line<A: Accounts>(accounts: &mut A, line: Line)
 
 // Posts each line between the bank and its institution.
 pub(crate) fn post_lines<A: Accounts>(accounts: &mut A, lines: &[Line])
-    requires payable { All Payable lines.now }
+    requires payable { AllByRecursion Payable lines.now }
     requires enough { length lines.now ≤ A.Accounts.free accounts.old }
     ensures { Posts lines.now (A.Accounts.balances accounts.old) (A.Accounts.free accounts.old) (A.Accounts.balances accounts.new) (A.Accounts.free accounts.new) }
 {

@@ -1,6 +1,6 @@
 -- The law after one call.
 use Rattle.std.proofs.Common.{◌≡◌, ℕ, List, [], ◌∷◌, ℤ, sym, refl, ap, ◌∙◌, subst}
-use Rattle.std.specs.List.{AllByRecursion as All}
+use Rattle.std.specs.List.{AllByRecursion}
 use Rattle.terms.specs.declared.plan.Plan.{Plan}
 use Rattle.tie_rules.specs.Sharing.{Sharing}
 use Rattle.conventions.specs.Deciding.{Deciding}
@@ -43,8 +43,8 @@ module _ (P : Plan) (T : Sharing) (C : Deciding) (n : ℕ) (past : List Call) (c
       (subst (λ (h : History). Lawful P T n h next.books) history_next
       (record { shows = law P T C n (c ∷ past); orderly = order_kept P T C n (c ∷ past); postable = postings_fit P T C n (c ∷ past) }))
 
-  pub penal_next : All (Penal b) t.lines
-  penal_next = subst (λ (x : Books). All (Penal x) t.lines) (sym led) (subst (λ (ls : List Line). All (Penal before.books) ls) (ap (λ p. p.0.lines) same_step) (penalties-one_percent P T C n past c))
+  pub penal_next : AllByRecursion (Penal b) t.lines
+  penal_next = subst (λ (x : Books). AllByRecursion (Penal x) t.lines) (sym led) (subst (λ (ls : List Line). AllByRecursion (Penal before.books) ls) (ap (λ p. p.0.lines) same_step) (penalties-one_percent P T C n past c))
 
 module _ {A T C : Type 0} (balances : A → List ℤ) (free : A → ℕ) (shares : T → Sharing) (decides : C → Deciding) where
   pub same-run : (d d' : Room A T C) (n : ℕ) (cs : List Call) → d'.house.book.plan ≡ d.house.book.plan → d'.house.tie_rule ≡ d.house.tie_rule → d'.house.convention ≡ d.house.convention

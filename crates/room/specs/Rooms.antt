@@ -1,6 +1,6 @@
 -- One call in a room, and the law after it. Assumes nothing.
 use Rattle.std.specs.Prelude.{◌≡◌, ℕ, List, ◌∷◌, take, ℤ}
-use Rattle.std.specs.List.{AllByRecursion as All}
+use Rattle.std.specs.List.{AllByRecursion}
 use Rattle.terms.specs.declared.plan.Plan.{Plan}
 use Rattle.tie_rules.specs.Sharing.{Sharing}
 use Rattle.conventions.specs.Deciding.{Deciding}
@@ -74,7 +74,7 @@ module _ {A T C : Type 0} (balances : A → List ℤ) (free : A → ℕ) (shares
   -- the law after one more call: of the calls that led here with this one added, its answer and its lines
   pub record After (d : Room A T C) (c : Call) (t : Told) (d' : Room A T C) (n : ℕ) (past : List Call) : Type 0 where
     pub lawful : Lawful d.house.book.plan (shares d.house.tie_rule) n (record { call = c; answer = t.answer; lines = t.lines } ∷ (run_of d n past).history) (room_books d')
-    pub penal : All (Penal (room_books d)) t.lines
+    pub penal : AllByRecursion (Penal (room_books d)) t.lines
     pub led : Led d' n (c ∷ past)
 
   -- one call: the answer, the lines and the books after are those of the rules; the ticket in hand stays the standing auction's; and whatever calls led here, the law stands after it

@@ -1,6 +1,6 @@
 -- Whole lists of requests on a house just made, and the law after each. Assumes nothing.
 use Rattle.std.specs.Prelude.{◌≡◌, ℕ, ◌<◌, ◌≤◌, List, [], ◌∷◌, ◌++◌, map, reverse, length, take, ℤ, pos, None}
-use Rattle.std.specs.List.{flat_map, AllByRecursion as All}
+use Rattle.std.specs.List.{flat_map, AllByRecursion}
 use Rattle.terms.specs.declared.plan.Plan.{Plan}
 use Rattle.tie_rules.specs.Sharing.{Sharing}
 use Rattle.conventions.specs.Deciding.{Deciding}
@@ -25,7 +25,7 @@ meant b q.Void = c.Void (last_ticket b)
 
 -- new accounts: every balance is nought
 abbrev pub New : List ℤ → Type 0
-New = All (λ z. z ≡ pos 0)
+New = AllByRecursion (λ z. z ≡ pos 0)
 
 -- a standing auction is voided when a room is closed
 abbrev pub closed : Books → Books

@@ -5,7 +5,7 @@ use Rattle.std.proofs.lemmas.Int.{ints}
 use Rattle.std.proofs.lemmas.Bool.{leb-true, leb-false, eqb-true, eqb-false}
 use Rattle.std.proofs.lemmas.List.{map-append, length-map}
 use Rattle.std.proofs.ByRecursion.{All-append, All-weaker, All-map}
-use Rattle.std.specs.List.{AllZip, flat_map, AllByRecursion as All, list_all}
+use Rattle.std.specs.List.{AllZip, flat_map, AllByRecursion, list_all}
 use Rattle.std.proofs.lemmas.List.Sums.{sum_by-cons}
 use Rattle.rules.specs.declared.auction.Bid.{Bid}
 use Rattle.rules.specs.declared.auction.Terms.{Terms}
@@ -21,17 +21,17 @@ Sound x = (1 ≤ x.institution) × (x.institution < 17) × (1 ≤ x.millions) ×
 -- ---- falling prices
 abbrev pub Sorted : List Bid → Type 0
 Sorted [] = Unit {0}
-Sorted (x ∷ xs) = All (λ y. y.price ≤ℤ x.price) xs × Sorted xs
+Sorted (x ∷ xs) = AllByRecursion (λ y. y.price ≤ℤ x.price) xs × Sorted xs
 
 abbrev Falling : List (List Bid) → Type 0
 Falling [] = Unit {0}
-Falling (g ∷ gs) = (p : ℤ) × All (λ x. x.price ≡ p) g × All (All (λ y. y.price ≤ℤ p)) gs × Falling gs
+Falling (g ∷ gs) = (p : ℤ) × AllByRecursion (λ x. x.price ≡ p) g × AllByRecursion (AllByRecursion (λ y. y.price ≤ℤ p)) gs × Falling gs
 
-pub entered_all : (Q : Bid → Type 0) (x : Bid) (xs : List Bid) → Q x → All Q xs → All Q (entered x xs)
+pub entered_all : (Q : Bid → Type 0) (x : Bid) (xs : List Bid) → Q x → AllByRecursion Q xs → AllByRecursion Q (entered x xs)
 entered_all Q x [] q h = (q, tt)
 entered_all Q x (y ∷ ys) q h = go (lt_z y.price x.price) (entered_all Q x ys q h.1)
   where
-    go : (t : Bool) → All Q (entered x ys) → All Q (cond t (x ∷ y ∷ ys) (y ∷ entered x ys))
+    go : (t : Bool) → AllByRecursion Q (entered x ys) → AllByRecursion Q (cond t (x ∷ y ∷ ys) (y ∷ entered x ys))
     go true ih = (q, h)
     go false ih = (h.0, ih)
 
@@ -52,20 +52,20 @@ entered-length x (y ∷ ys) = go (lt_z y.price x.price) (entered-length x ys)
     go false ih = ap suc ih
 
 -- ---- the groups of one price
-joined_to-all : (Q : Bid → Type 0) (x : Bid) (gs : List (List Bid)) → Q x → All (All Q) gs → All (All Q) (joined_to x gs)
+joined_to-all : (Q : Bid → Type 0) (x : Bid) (gs : List (List Bid)) → Q x → AllByRecursion (AllByRecursion Q) gs → AllByRecursion (AllByRecursion Q) (joined_to x gs)
 joined_to-all Q x [] q h = ((q, tt), tt)
 joined_to-all Q x ([] ∷ gs) q h = ((q, tt), h.1)
 joined_to-all Q x ((y ∷ ys) ∷ gs) q h = go (lt_z y.price x.price)
   where
-    go : (t : Bool) → All (All Q) (cond t ((x ∷ []) ∷ (y ∷ ys) ∷ gs) ((x ∷ y ∷ ys) ∷ gs))
+    go : (t : Bool) → AllByRecursion (AllByRecursion Q) (cond t ((x ∷ []) ∷ (y ∷ ys) ∷ gs) ((x ∷ y ∷ ys) ∷ gs))
     go true = ((q, tt), h)
     go false = ((q, h.0), h.1)
 
-pub prices-all : (Q : Bid → Type 0) (xs : List Bid) → All Q xs → All (All Q) (prices xs)
+pub prices-all : (Q : Bid → Type 0) (xs : List Bid) → AllByRecursion Q xs → AllByRecursion (AllByRecursion Q) (prices xs)
 prices-all Q [] h = tt
 prices-all Q (x ∷ xs) h = joined_to-all Q x (prices xs) h.0 (prices-all Q xs h.1)
 
-joined_to-falling : (x : Bid) (gs : List (List Bid)) → All (All (λ y. y.price ≤ℤ x.price)) gs → Falling gs → Falling (joined_to x gs)
+joined_to-falling : (x : Bid) (gs : List (List Bid)) → AllByRecursion (AllByRecursion (λ y. y.price ≤ℤ x.price)) gs → Falling gs → Falling (joined_to x gs)
 joined_to-falling x [] u h = (x.price, (refl, tt), tt, tt)
 joined_to-falling x ([] ∷ gs) u h = (x.price, (refl, tt), u.1, h.3)
 joined_to-falling x ((y ∷ ys) ∷ gs) u h = go (lt_z y.price x.price) refl
@@ -121,11 +121,11 @@ pub sum-total : (xs : List ℕ) → sum xs ≡ total xs
 sum-total [] = refl
 sum-total (x ∷ xs) = omega (arith, sum_by-cons (λ a. a) x xs, sum-total xs)
 
-pub dollars_in_range : (amounts : List ℕ) → All (λ a. (1 ≤ a) × (a ≤ 2000000000)) amounts → list_all is_dollars amounts ≡ true
+pub dollars_in_range : (amounts : List ℕ) → AllByRecursion (λ a. (1 ≤ a) × (a ≤ 2000000000)) amounts → list_all is_dollars amounts ≡ true
 dollars_in_range [] h = refl
 dollars_in_range (a ∷ amounts) h = let one : is_dollars a ≡ true = grind (arith, h.0) in rw one (dollars_in_range amounts h.1)
 
-pub served-ok : (T : Sharing) (left : ℕ) (amounts : List ℕ) → length amounts ≤ 64 → All (λ a. (1 ≤ a) × (a ≤ 2000000000)) amounts → left ≤ 2000000000 → Served left amounts (served T left amounts)
+pub served-ok : (T : Sharing) (left : ℕ) (amounts : List ℕ) → length amounts ≤ 64 → AllByRecursion (λ a. (1 ≤ a) × (a ≤ 2000000000)) amounts → left ≤ 2000000000 → Served left amounts (served T left amounts)
 served-ok T left amounts few range most = go (leb (total amounts) left) refl (eqb left 0) refl
   where
     go : (t : Bool) → leb (total amounts) left ≡ t → (u : Bool) → eqb left 0 ≡ u → Served left amounts (cond t amounts (cond u (map (λ _. 0) amounts) (T.shares amounts left)))
@@ -148,21 +148,21 @@ paired-dollars [] (d ∷ ds) h = absurd h
 paired-dollars (x ∷ xs) [] h = absurd h
 paired-dollars (x ∷ xs) (d ∷ ds) h = ap (λ ys. d ∷ ys) (paired-dollars xs ds h.1)
 
-pub paired-within : (g : List Bid) (ds : List ℕ) → AllZip ◌≤◌ ds (map named g) → All (λ x. x.dollars ≤ named x.of) (paired g ds)
+pub paired-within : (g : List Bid) (ds : List ℕ) → AllZip ◌≤◌ ds (map named g) → AllByRecursion (λ x. x.dollars ≤ named x.of) (paired g ds)
 paired-within [] ds h = tt
 paired-within (x ∷ xs) [] h = tt
 paired-within (x ∷ xs) (d ∷ ds) h = (h.0, paired-within xs ds h.1)
 
-paired-full : (g : List Bid) → All (λ x. x.dollars ≡ named x.of) (paired g (map named g))
+paired-full : (g : List Bid) → AllByRecursion (λ x. x.dollars ≡ named x.of) (paired g (map named g))
 paired-full [] = tt
 paired-full (x ∷ xs) = (refl, paired-full xs)
 
-paired-all : (Q : Bid → Type 0) (g : List Bid) (ds : List ℕ) → All Q g → All (λ x. Q x.of) (paired g ds)
+paired-all : (Q : Bid → Type 0) (g : List Bid) (ds : List ℕ) → AllByRecursion Q g → AllByRecursion (λ x. Q x.of) (paired g ds)
 paired-all Q [] ds h = tt
 paired-all Q (x ∷ xs) [] h = tt
 paired-all Q (x ∷ xs) (d ∷ ds) h = (h.0, paired-all Q xs ds h.1)
 
-all_zero : (gs : List Got) → total (map (λ x. x.dollars) gs) ≡ 0 → All (λ x. x.dollars ≡ 0) gs
+all_zero : (gs : List Got) → total (map (λ x. x.dollars) gs) ≡ 0 → AllByRecursion (λ x. x.dollars ≡ 0) gs
 all_zero [] e = tt
 all_zero (x ∷ xs) e = (omega arith, all_zero xs (omega arith))
 
@@ -173,14 +173,14 @@ Lower x y = x.dollars < named x.of → y.of.price <ℤ x.of.price → y.dollars 
 record Good (left : ℕ) (gs : List (List Bid)) (out : List Got) : Type 0 where
   whose : map (λ x. x.of) out ≡ flat gs
   whole : total (map (λ x. x.dollars) out) ≡ min left (total (map named (flat gs)))
-  no_more : All (λ x. x.dollars ≤ named x.of) out
-  no_lower : All (λ x. All (Lower x) out) out
+  no_more : AllByRecursion (λ x. x.dollars ≤ named x.of) out
+  no_lower : AllByRecursion (λ x. AllByRecursion (Lower x) out) out
 
 -- A, the bids at the first price p, above B, the rest: each of A got all that it named, or B got nought
 good_join : (left : ℕ) (g : List Bid) (gs : List (List Bid)) (A B : List Got) (p : ℤ)
-    → map (λ x. x.of) A ≡ g → total (map (λ x. x.dollars) A) ≡ min left (total (map named g)) → All (λ x. x.dollars ≤ named x.of) A
-    → (total (map named g) ≤ left → All (λ x. x.dollars ≡ named x.of) A)
-    → All (λ x. x.of.price ≡ p) A → All (λ y. y.of.price ≤ℤ p) B
+    → map (λ x. x.of) A ≡ g → total (map (λ x. x.dollars) A) ≡ min left (total (map named g)) → AllByRecursion (λ x. x.dollars ≤ named x.of) A
+    → (total (map named g) ≤ left → AllByRecursion (λ x. x.dollars ≡ named x.of) A)
+    → AllByRecursion (λ x. x.of.price ≡ p) A → AllByRecursion (λ y. y.of.price ≤ℤ p) B
     → Good (left - total (map named g)) gs B → Good left (g ∷ gs) (A ++ B)
 good_join left g gs A B p of whole within full level under good = record {
   whose = map-append (λ x. x.of) A B ∙ ap₂ (λ x y. x ++ y) of good.whose;
@@ -188,7 +188,7 @@ good_join left g gs A B p of whole within full level under good = record {
       ∙ sums (total (map (λ x. x.dollars) A)) (total (map (λ x. x.dollars) B)) (total (map named g)) (total (map named (flat gs))) whole good.whole
       ∙ ap (min left) (sym (ap total (map-append named g (flat gs)) ∙ total-append (map named g) (map named (flat gs))));
   no_more = All-append (λ x. x.dollars ≤ named x.of) A B within good.no_more;
-  no_lower = All-append (λ x. All (Lower x) (A ++ B)) A B (above (leb (total (map named g)) left) refl)
+  no_lower = All-append (λ x. AllByRecursion (Lower x) (A ++ B)) A B (above (leb (total (map named g)) left) refl)
       (both_below B under good.no_lower);
 }
   where
@@ -196,35 +196,35 @@ good_join left g gs A B p of whole within full level under good = record {
     sums a b m n e f = omega arith
 
     -- y is of A, at the price p, and x is not above it
-    a_not_lower : (x : Got) → x.of.price ≤ℤ p → All (Lower x) A
+    a_not_lower : (x : Got) → x.of.price ≤ℤ p → AllByRecursion (Lower x) A
     a_not_lower x u = All-weaker (λ y. y.of.price ≡ p) (Lower x) (λ y e s l. absurd (omega (arith, ints))) A level
 
-    both_below : (C : List Got) → All (λ y. y.of.price ≤ℤ p) C → All (λ x. All (Lower x) B) C → All (λ x. All (Lower x) (A ++ B)) C
+    both_below : (C : List Got) → AllByRecursion (λ y. y.of.price ≤ℤ p) C → AllByRecursion (λ x. AllByRecursion (Lower x) B) C → AllByRecursion (λ x. AllByRecursion (Lower x) (A ++ B)) C
     both_below [] u h = tt
     both_below (x ∷ xs) u h = (All-append (Lower x) A B (a_not_lower x u.0) h.0, both_below xs u.1 h.1)
 
-    none_short : (C : List Got) → All (λ x. x.of.price ≡ p) C → All (λ x. x.dollars ≡ named x.of) C → All (λ x. All (Lower x) (A ++ B)) C
+    none_short : (C : List Got) → AllByRecursion (λ x. x.of.price ≡ p) C → AllByRecursion (λ x. x.dollars ≡ named x.of) C → AllByRecursion (λ x. AllByRecursion (Lower x) (A ++ B)) C
     none_short [] u h = tt
     none_short (x ∷ xs) u h = (anything (A ++ B), none_short xs u.1 h.1)
       where
-        anything : (ys : List Got) → All (Lower x) ys
+        anything : (ys : List Got) → AllByRecursion (Lower x) ys
         anything [] = tt
         anything (y ∷ ys) = ((λ s l. absurd (omega (arith, h.0))), anything ys)
 
-    none_left : (C : List Got) → All (λ x. x.of.price ≡ p) C → All (λ y. y.dollars ≡ 0) B → All (λ x. All (Lower x) (A ++ B)) C
+    none_left : (C : List Got) → AllByRecursion (λ x. x.of.price ≡ p) C → AllByRecursion (λ y. y.dollars ≡ 0) B → AllByRecursion (λ x. AllByRecursion (Lower x) (A ++ B)) C
     none_left [] u z = tt
     none_left (x ∷ xs) u z = (All-append (Lower x) A B (a_not_lower x (omega (arith, ints, u.0))) (All-weaker (λ y. y.dollars ≡ 0) (Lower x) (λ y e s l. e) B z), none_left xs u.1 z)
 
-    above : (t : Bool) → leb (total (map named g)) left ≡ t → All (λ x. All (Lower x) (A ++ B)) A
+    above : (t : Bool) → leb (total (map named g)) left ≡ t → AllByRecursion (λ x. AllByRecursion (Lower x) (A ++ B)) A
     above true e = none_short A level (full (leb-true (total (map named g)) left e))
     above false e = none_left A level (all_zero B (let lt = leb-false (total (map named g)) left e in omega (arith, good.whole)))
 
-allot-all : (T : Sharing) (left : ℕ) (Q : Bid → Type 0) (gs : List (List Bid)) → All (All Q) gs → All (λ x. Q x.of) (allot T left gs)
+allot-all : (T : Sharing) (left : ℕ) (Q : Bid → Type 0) (gs : List (List Bid)) → AllByRecursion (AllByRecursion Q) gs → AllByRecursion (λ x. Q x.of) (allot T left gs)
 allot-all T left Q [] h = tt
 allot-all T left Q (g ∷ gs) h = All-append (λ x. Q x.of) (paired g (served T left (map named g))) (allot T (left - total (map named g)) gs)
     (paired-all Q g (served T left (map named g)) h.0) (allot-all T (left - total (map named g)) Q gs h.1)
 
-allot-good : (T : Sharing) (left : ℕ) (gs : List (List Bid)) → left ≤ 2000000000 → length (flat gs) ≤ 64 → All (All Sound) gs → Falling gs → Good left gs (allot T left gs)
+allot-good : (T : Sharing) (left : ℕ) (gs : List (List Bid)) → left ≤ 2000000000 → length (flat gs) ≤ 64 → AllByRecursion (AllByRecursion Sound) gs → Falling gs → Good left gs (allot T left gs)
 allot-good T left [] most few sound fall = record { whose = refl; whole = omega arith; no_more = tt; no_lower = tt }
 allot-good T left (g ∷ gs) most few sound fall =
     let len = length-append g (flat gs) in
@@ -234,17 +234,17 @@ allot-good T left (g ∷ gs) most few sound fall =
     let ds = served T left (map named g) in
     good_join left g gs (paired g ds) (allot T (left - total (map named g)) gs) fall.0
     (paired-of g ds ok.within) (ap total (paired-dollars g ds ok.within) ∙ ok.whole) (paired-within g ds ok.within)
-    (λ k. subst (λ (es : List ℕ). All (λ x. x.dollars ≡ named x.of) (paired g es)) (sym (ok.full k)) (paired-full g))
+    (λ k. subst (λ (es : List ℕ). AllByRecursion (λ x. x.dollars ≡ named x.of) (paired g es)) (sym (ok.full k)) (paired-full g))
     (paired-all (λ x. x.price ≡ fall.0) g ds fall.1) (allot-all T (left - total (map named g)) (λ y. y.price ≤ℤ fall.0) gs fall.2)
     (allot-good T (left - total (map named g)) gs (omega arith) (omega arith) sound.1 fall.3)
 
 -- what the rule gives keeps (c), over every tie rule
-pub allotted-keeps : (T : Sharing) (t : Terms) (xs : List Bid) → t.offer ≤ 2000 → length xs ≤ 64 → All Sound xs → Sorted xs → Allotted t.offer xs (allotted T t xs)
+pub allotted-keeps : (T : Sharing) (t : Terms) (xs : List Bid) → t.offer ≤ 2000 → length xs ≤ 64 → AllByRecursion Sound xs → Sorted xs → Allotted t.offer xs (allotted T t xs)
 allotted-keeps T t xs most few sound sorted =
     let f = prices-flat xs in
     let good = allot-good T (1000000 * t.offer) (prices xs) (omega arith) (omega (arith, ap length f)) (prices-all Sound xs sound) (prices-falling xs sorted) in
     record { whose = good.whose ∙ f; whole = good.whole ∙ ap (λ ys. min (1000000 * t.offer) (total (map named ys))) f; no_more = good.no_more; no_lower = good.no_lower }
 
 -- what holds of each bid holds of each that got something
-pub allotted-all : (T : Sharing) (t : Terms) (Q : Bid → Type 0) (xs : List Bid) → All Q xs → All (λ x. Q x.of) (allotted T t xs)
+pub allotted-all : (T : Sharing) (t : Terms) (Q : Bid → Type 0) (xs : List Bid) → AllByRecursion Q xs → AllByRecursion (λ x. Q x.of) (allotted T t xs)
 allotted-all T t Q xs h = allot-all T (1000000 * t.offer) Q (prices xs) (prices-all Q xs h)

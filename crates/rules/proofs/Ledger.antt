@@ -3,7 +3,7 @@ use Rattle.std.proofs.Common.{◌≡◌, ℕ, zero, suc, ◌<◌, ◌≤◌, Boo
 use Rattle.std.proofs.lemmas.Int.{ints}
 use Rattle.std.proofs.lemmas.Bool.{eqb-true, eqb-false, ne_eqb}
 use Rattle.std.proofs.lemmas.List.Elements.{filter-append}
-use Rattle.std.specs.List.{AllByRecursion as All}
+use Rattle.std.specs.List.{AllByRecursion}
 use Rattle.rules.specs.declared.hedge.Line.{Line}
 use Rattle.rules.specs.Books.{Books, sum_by, bank, parties, moves, posted}
 use Rattle.rules.specs.Law.{History, Entry, Balanced, told, lines_for, sum_of, sum_to}
@@ -45,11 +45,11 @@ line-nought : (l : Line) → ToInstitution l → sum_to parties (λ p. moves p l
 line-nought l h = sum_to-sub parties (pick l.institution l.centavos) (pick bank l.centavos)
     ∙ ap₂ (λ x y. x -ℤ y) (picked parties l.institution l.centavos h.1) (picked parties bank l.centavos (omega arith)) ∙ omega (arith, ints)
 
-lines_nought : (ls : List Line) → All ToInstitution ls → sum_to parties (λ p. sum_by (moves p) ls) ≡ pos 0
+lines_nought : (ls : List Line) → AllByRecursion ToInstitution ls → sum_to parties (λ p. sum_by (moves p) ls) ≡ pos 0
 lines_nought [] h = refl
 lines_nought (l ∷ ls) h = sum_to-add parties (λ p. moves p l) (λ p. sum_by (moves p) ls) ∙ ap₂ (λ x y. x +ℤ y) (line-nought l h.0) (lines_nought ls h.1)
 
-pub posted-nought : (ls : List Line) (f : ℕ → ℤ) → All ToInstitution ls → sum_to parties f ≡ pos 0 → sum_to parties (posted ls f) ≡ pos 0
+pub posted-nought : (ls : List Line) (f : ℕ → ℤ) → AllByRecursion ToInstitution ls → sum_to parties f ≡ pos 0 → sum_to parties (posted ls f) ≡ pos 0
 posted-nought ls f h e = sum_to-add parties f (λ p. sum_by (moves p) ls) ∙ ap₂ (λ x y. x +ℤ y) e (lines_nought ls h)
 
 moves-for : (i : ℕ) (ls : List Line) → 1 ≤ i → sum_by (moves i) ls ≡ sum_of (lines_for i ls)
@@ -78,7 +78,7 @@ posted-for i ls f before h e =
     swap a b = omega (arith, ints)
 
 -- a call that the .lines lines ls, each to an institution, and posts them
-pub posted-balanced : (e : Entry) (h : History) (b b' : Books) → All ToInstitution e.lines → b'.balance ≡ posted e.lines b.balance → Balanced h b → Balanced (e ∷ h) b'
+pub posted-balanced : (e : Entry) (h : History) (b b' : Books) → AllByRecursion ToInstitution e.lines → b'.balance ≡ posted e.lines b.balance → Balanced h b → Balanced (e ∷ h) b'
 posted-balanced e h b b' to p bal = record {
   nought = ap (sum_to parties) p ∙ posted-nought e.lines b.balance to bal.nought;
   each = λ i l u. ap (λ (f : ℕ → ℤ). f i) p ∙ posted-for i e.lines b.balance (told h) l (bal.each i l u);

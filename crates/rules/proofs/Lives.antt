@@ -3,7 +3,7 @@ use Rattle.std.proofs.Common.{◌≡◌, ℕ, ◌*◌, Bool, true, false, cond, 
 use Rattle.std.proofs.lemmas.Bool.{both_ways, and_parts}
 use Rattle.std.proofs.lemmas.List.Elements.{filter-append}
 use Rattle.std.proofs.ByRecursion.{kept_by_passes}
-use Rattle.std.specs.List.{AllByRecursion as All}
+use Rattle.std.specs.List.{AllByRecursion}
 use Rattle.rules.proofs.Arith.{near-more, rounded-near}
 use Rattle.rules.specs.declared.hedge.Line.{Line}
 use Rattle.rules.specs.declared.hedge.Deal.{Deal}
@@ -36,7 +36,7 @@ kept_map f p (x ∷ xs) = go (p (f x)) (kept_map f p xs)
     go true ih = ap (λ ys. f x ∷ ys) ih
     go false ih = ih
 
-pub kept_none : {X : Type 0} (p : X → Bool) (xs : List X) → All (λ x. p x ≡ false) xs → filter p xs ≡ []
+pub kept_none : {X : Type 0} (p : X → Bool) (xs : List X) → AllByRecursion (λ x. p x ≡ false) xs → filter p xs ≡ []
 kept_none p [] h = refl
 kept_none p (x ∷ xs) h = ap (λ t. cond t (x ∷ filter p xs) (filter p xs)) h.0 ∙ kept_none p xs h.1
 
@@ -92,7 +92,7 @@ pub data Life (h : History) (hs : List Hedge) (g : Deal) : Type 0 where
 pub record Lived (h : History) (hs : List Hedge) (g : Deal) : Type 0 where
   pub close : near (50 * length (lines_of g.number (told h))) (pos 100 *ℤ sum_of (lines_of g.number (told h))) (pos g.dollars *ℤ (pos (last_settled g h) -ℤ pos g.assigned))
   pub none_late : late g h ≡ []
-  pub whose : All (λ l. l.institution ≡ g.institution) (lines_of g.number (told h))
+  pub whose : AllByRecursion (λ l. l.institution ≡ g.institution) (lines_of g.number (told h))
   pub life : Life h hs g
 
 pub lived_paid : (h : History) (hs : List Hedge) (g : Deal) → Lived h hs g → Paid h g
@@ -111,7 +111,7 @@ lived_same e h hs hs' g none life v = record {
   close = subst (λ (ls : List Line). near (50 * length ls) (pos 100 *ℤ sum_of ls) (pos g.dollars *ℤ (pos (last_settled g (e ∷ h)) -ℤ pos g.assigned))) (sym lines)
       (subst (λ (s : ℕ). near (50 * length (lines_of g.number (told h))) (pos 100 *ℤ sum_of (lines_of g.number (told h))) (pos g.dollars *ℤ (pos s -ℤ pos g.assigned))) (sym (settled_same e h g none)) v.close);
   none_late = ap₂ (λ xs ys. xs ++ ys) (ap (if_closed (closed_at g h)) none ∙ if_none (closed_at g h)) v.none_late;
-  whose = subst (All (λ l. l.institution ≡ g.institution)) (sym lines) v.whose;
+  whose = subst (AllByRecursion (λ l. l.institution ≡ g.institution)) (sym lines) v.whose;
   life = life;
 }
   where
@@ -148,7 +148,7 @@ module _ (paid shut : Hedge → Bool) (day r : ℕ) (e : Entry) (h : History) (h
   all_lines = filter-append (λ l. eqb l.hedge g.number) e.lines (told h) ∙ ap (λ ls. ls ++ lines_of g.number (told h)) lines
 
   was_open : (x : Hedge) → here g.number hs ≡ x ∷ [] → x.live ≡ true
-  was_open x k = (and_parts x.live (eqb x.deal.number g.number) (subst (All (λ x. of_number g.number x ≡ true)) k (kept_by_passes (of_number g.number) hs)).0).0
+  was_open x k = (and_parts x.live (eqb x.deal.number g.number) (subst (AllByRecursion (λ x. of_number g.number x ≡ true)) k (kept_by_passes (of_number g.number) hs)).0).0
 
   module _ (v : Lived h hs g) where
     lived_over : closed_at g h ≡ Some (last_settled g h) → here g.number hs ≡ [] → Lived (e ∷ h) hs' g
@@ -178,7 +178,7 @@ module _ (paid shut : Hedge → Bool) (day r : ℕ) (e : Entry) (h : History) (h
               v.close
               (subst (λ (z : ℤ). near 50 (pos 100 *ℤ (line_of r x).centavos) z) (ap₂ (λ (dd : Deal) (ss : ℕ). pos dd.dollars *ℤ (pos r -ℤ pos ss)) d s) (rounded-near (worth r x))));
           none_late = ap₂ (λ o ys. if_closed o (lines_of g.number e.lines) ++ ys) c v.none_late;
-          whose = subst (All (λ l. l.institution ≡ g.institution)) (sym all) (ap (λ (dd : Deal). dd.institution) d, v.whose);
+          whose = subst (AllByRecursion (λ l. l.institution ≡ g.institution)) (sym all) (ap (λ (dd : Deal). dd.institution) d, v.whose);
           life = life;
         }
           where

@@ -1,7 +1,7 @@
 -- Further laws of every run: maturities, caps, and what matured against what was rolled.
 use Rattle.std.proofs.Common.{◌≡◌, ℕ, suc, ◌+◌, ◌*◌, ◌<◌, ◌≤◌, Bool, true, false, cond, not, ◌&&◌, eqb, ltb, List, [], ◌∷◌, ◌++◌, map, length, ℤ, pos, nat_abs, is_some, Some, None, filter, Option, sym, refl, ap, ◌∙◌, subst, ap₂, arith}
 use lib.Signed.{le_z, lt_z}
-use Rattle.std.specs.List.{AllByRecursion as All}
+use Rattle.std.specs.List.{AllByRecursion}
 use Rattle.std.proofs.lemmas.Int.{ints}
 use Rattle.std.proofs.lemmas.Bool.{eqb-true, both_ways, and_parts, or_parts, not-false, ltb-false}
 use Rattle.std.proofs.lemmas.List.{map-append}
@@ -83,15 +83,15 @@ fresh-sum : (day : ℕ) (f : Deal → ℕ) (ds : List Deal) → total (map (λ x
 fresh-sum day f [] = refl
 fresh-sum day f (d ∷ ds) = ap (λ n. f d + n) (fresh-sum day f ds)
 
-kept_all : {X : Type 0} (p : X → Bool) (xs : List X) → All (λ x. p x ≡ true) xs → filter p xs ≡ xs
+kept_all : {X : Type 0} (p : X → Bool) (xs : List X) → AllByRecursion (λ x. p x ≡ true) xs → filter p xs ≡ xs
 kept_all p [] a = refl
 kept_all p (x ∷ xs) a = ap (λ t. cond t (x ∷ filter p xs) (filter p xs)) a.0 ∙ ap (λ ys. x ∷ ys) (kept_all p xs a.1)
 
-none_kept : {X : Type 0} (p : X → Bool) (xs : List X) → length (filter p xs) ≡ 0 → All (λ x. p x ≡ false) xs
+none_kept : {X : Type 0} (p : X → Bool) (xs : List X) → length (filter p xs) ≡ 0 → AllByRecursion (λ x. p x ≡ false) xs
 none_kept p [] e = tt
 none_kept p (x ∷ xs) e = go (p x) refl e (λ q. none_kept p xs q)
   where
-    go : (t : Bool) → p x ≡ t → length (cond t (x ∷ filter p xs) (filter p xs)) ≡ 0 → (length (filter p xs) ≡ 0 → All (λ x. p x ≡ false) xs) → (p x ≡ false) × All (λ x. p x ≡ false) xs
+    go : (t : Bool) → p x ≡ t → length (cond t (x ∷ filter p xs) (filter p xs)) ≡ 0 → (length (filter p xs) ≡ 0 → AllByRecursion (λ x. p x ≡ false) xs) → (p x ≡ false) × AllByRecursion (λ x. p x ≡ false) xs
     go true q z ih = absurd (omega arith)
     go false q z ih = (q, ih z)
 
@@ -133,7 +133,7 @@ sold_covered Maturity offer matured ds c h = omega (arith, c)
 -- ---- what every run keeps
 pub record Ordered (P : Plan) (T : Sharing) (h : History) (b : Books) : Type 0 where
   pub today : b.day ≡ day_now P h
-  pub ahead : All (λ x. x.live ≡ true → b.day ≤ x.deal.maturity) b.hedges
+  pub ahead : AllByRecursion (λ x. x.live ≡ true → b.day ≤ x.deal.maturity) b.hedges
   pub caps : (n i : ℕ) → millions_of i (bids_of n h) ≤ (terms_of n h).cap
   pub sums : (f : Deal → ℕ) → total (map (λ x. f x.deal) (open_ones b.hedges)) ≡ total (map f (filter (λ g. not (is_some (closed_at g h))) (dealt T h)))
   pub covered : b.matured + rolled_since T h ≡ matured_at T h
@@ -151,7 +151,7 @@ module _ (P : Plan) (T : Sharing) (C : Deciding) (h : History) (b : Books) (k : 
       → Covers (standing b'.auction).terms.kind (standing b'.auction).terms.offer b.matured → Ordered P T (e ∷ h) b'
   quiet e b' still nofix nopub deals day hedges matured caps offer = record {
     today = day ∙ s.today ∙ sym (ap (λ (o : Option Fixing). elim o [ Some f ↦ f.day | None ↦ day_now P h ]) nofix);
-    ahead = subst (λ (d : ℕ). All (λ x. x.live ≡ true → d ≤ x.deal.maturity) b'.hedges) (sym day) (subst (All (λ x. x.live ≡ true → b.day ≤ x.deal.maturity)) (sym hedges) s.ahead);
+    ahead = subst (λ (d : ℕ). AllByRecursion (λ x. x.live ≡ true → d ≤ x.deal.maturity) b'.hedges) (sym day) (subst (AllByRecursion (λ x. x.live ≡ true → b.day ≤ x.deal.maturity)) (sym hedges) s.ahead);
     caps = caps;
     sums = λ f. ap (λ hs. total (map (λ x. f x.deal) (open_ones hs))) hedges ∙ s.sums f
         ∙ ap (λ ds. total (map f ds)) (kept_alike (λ g. not (is_some (closed_at g h))) (λ g. not (is_some (closed_at g (e ∷ h)))) (dealt T h) (λ g. ap (λ o. not (is_some o)) (sym (closed_same e h g (still g)))) ∙ ap (filter (λ g. not (is_some (closed_at g (e ∷ h))))) (sym deals));
@@ -208,7 +208,7 @@ module _ (P : Plan) (T : Sharing) (C : Deciding) (h : History) (b : Books) (k : 
       go None q = tt
       go (Some a) q = absurd (both_ways true q refl)
 
-  ordered_publish : (n : ℕ) → All (λ t. t.1 ≡ false) (tests P T C b (publish n)) → Ordered P T (entry P T C h b k (publish n) ∷ h) (after P T C b (publish n))
+  ordered_publish : (n : ℕ) → AllByRecursion (λ t. t.1 ≡ false) (tests P T C b (publish n)) → Ordered P T (entry P T C h b k (publish n) ∷ h) (after P T C b (publish n))
   ordered_publish n p = record {
     today = s.today;
     ahead = All-append (λ x. x.live ≡ true → b.day ≤ x.deal.maturity) b.hedges (map (fresh b.day) ds) s.ahead
@@ -246,10 +246,10 @@ module _ (P : Plan) (T : Sharing) (C : Deciding) (h : History) (b : Books) (k : 
       New : Deal → Type 0
       New g = (b.numbered < g.number) × (b.day < g.maturity)
 
-      sound : All Sound (standing b.auction).bids
-      sound = subst (All Sound) (sym v.bids) (k.sold.taken n).sound
+      sound : AllByRecursion Sound (standing b.auction).bids
+      sound = subst (AllByRecursion Sound) (sym v.bids) (k.sold.taken n).sound
 
-      news : All New ds
+      news : AllByRecursion New ds
       news = new_ones P T C h b k n p
 
       open_before : Deal → Bool
@@ -258,7 +258,7 @@ module _ (P : Plan) (T : Sharing) (C : Deciding) (h : History) (b : Books) (k : 
       open_now : Deal → Bool
       open_now g = not (is_some (closed_at g (e ∷ h)))
 
-      still : All (λ g. open_now g ≡ true) ds
+      still : AllByRecursion (λ g. open_now g ≡ true) ds
       still = All-weaker New (λ g. open_now g ≡ true) (λ g q. ap (λ o. not (is_some o)) (closed_same e h g refl ∙ k.placed.unclosed g q.0 q.1)) ds news
 
       swap : (x y : ℕ) → x + y ≡ y + x
@@ -269,7 +269,7 @@ module _ (P : Plan) (T : Sharing) (C : Deciding) (h : History) (b : Books) (k : 
           (let w = (allotted-keeps T terms (standing b.auction).bids (omega (arith, ap (λ (t : Terms). t.offer) v.terms, k.sold.offered n)) (omega (arith, ap length v.bids, (k.sold.taken n).few)) sound (subst Sorted (sym v.bids) (k.sold.taken n).sorted)).whole in
           omega (arith, numbered_dollars (suc b.numbered) b.rate terms gots, w))
 
-  ordered_fix : (d r : ℤ) (room : ℕ) → All (λ t. t.1 ≡ false) (tests P T C b (fix d r room)) → Ordered P T (entry P T C h b k (fix d r room) ∷ h) (after P T C b (fix d r room))
+  ordered_fix : (d r : ℤ) (room : ℕ) → AllByRecursion (λ t. t.1 ≡ false) (tests P T C b (fix d r room)) → Ordered P T (entry P T C h b k (fix d r room) ∷ h) (after P T C b (fix d r room))
   ordered_fix d r room p = record {
     today = refl;
     ahead = All-map (λ x. x.live ≡ true → day ≤ x.deal.maturity) turn (open_ones b.hedges) (All-weaker (λ x. lt_z (pos x.deal.maturity) d ≡ false) (λ x. (x.live && not (closing day x)) ≡ true → day ≤ x.deal.maturity) (λ x q _. reach x.deal.maturity q) (open_ones b.hedges) none);
@@ -301,7 +301,7 @@ module _ (P : Plan) (T : Sharing) (C : Deciding) (h : History) (b : Books) (k : 
       order : (le_z d (pos b.day) ≡ false) × (not (eqb (length (skipped d b.hedges)) 0) ≡ false)
       order = or_parts (le_z d (pos b.day)) (not (eqb (length (skipped d b.hedges)) 0)) p.1.1.1.1.0
 
-      none : All (λ x. lt_z (pos x.deal.maturity) d ≡ false) (open_ones b.hedges)
+      none : AllByRecursion (λ x. lt_z (pos x.deal.maturity) d ≡ false) (open_ones b.hedges)
       none = none_kept (λ x. lt_z (pos x.deal.maturity) d) (open_ones b.hedges) (eqb-true (length (skipped d b.hedges)) 0 (not-false (eqb (length (skipped d b.hedges)) 0) order.1))
 
       reach : (m : ℕ) → lt_z (pos m) d ≡ false → day ≤ m
@@ -332,7 +332,7 @@ module _ (P : Plan) (T : Sharing) (C : Deciding) (h : History) (b : Books) (k : 
       named-now : Deal → Bool
       named-now g = eqb g.number (nat_abs n)
 
-  ordered_after : (c : Call) → All (λ t. t.1 ≡ false) (tests P T C b c) → Ordered P T (entry P T C h b k c ∷ h) (after P T C b c)
+  ordered_after : (c : Call) → AllByRecursion (λ t. t.1 ≡ false) (tests P T C b c) → Ordered P T (entry P T C h b k c ∷ h) (after P T C b c)
   ordered_after (admit i) p = quiet (entry P T C h b k (admit i)) (after P T C b (admit i)) (λ g. refl) refl refl refl refl refl refl s.caps s.offer
   ordered_after (announce kd o c m) p = quiet (entry P T C h b k (announce kd o c m)) (after P T C b (announce kd o c m)) (λ g. refl) refl refl (dealt-announce T h b.day b.auction b.auctions kd o c m k.sold) refl refl refl (caps_announce kd o c m) (offer_announce kd o c m p.1.1.1.1.0)
   ordered_after (bid n i q m) p =
@@ -369,7 +369,7 @@ orderly P T h b k s = record {
     go : (g : Deal) → Life h b.hedges g → closed_at g h ≡ None → day_now P h ≤ g.maturity
     go g (over c e) q = let z : ◌≡◌ {A = ℕ} 0 1 = cc in absurd (omega arith)
     go g (going c x e d r) q =
-        let a = (subst (All (λ x. x.live ≡ true → b.day ≤ x.deal.maturity)) e (all_kept_by (of_number g.number) (λ x. x.live ≡ true → b.day ≤ x.deal.maturity) b.hedges s.ahead)).0 (was_live g.number b.hedges x e) in
+        let a = (subst (AllByRecursion (λ x. x.live ≡ true → b.day ≤ x.deal.maturity)) e (all_kept_by (of_number g.number) (λ x. x.live ≡ true → b.day ≤ x.deal.maturity) b.hedges s.ahead)).0 (was_live g.number b.hedges x e) in
         omega (arith, a, s.today, ap (λ (y : Deal). y.maturity) d)
 
 pub order_kept : OrderKept

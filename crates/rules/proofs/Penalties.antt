@@ -1,6 +1,6 @@
 -- Every penalty line is one percent of the shortfall at that fix.
 use Rattle.std.proofs.Common.{◌≡◌, ℕ, zero, suc, ◌-◌, true, ltb, List, map, pos, neg_ℤ, nat_abs, Some, None, filter, Option, refl, arith}
-use Rattle.std.specs.List.{AllByRecursion as All}
+use Rattle.std.specs.List.{AllByRecursion}
 use Rattle.std.proofs.lemmas.Bool.{and_parts, ltb-true}
 use Rattle.std.proofs.ByRecursion.{All-append, All-map, All-weaker, all_kept_by, kept_by_passes}
 use Rattle.terms.specs.declared.plan.Plan.{Plan}
@@ -25,16 +25,16 @@ rounded-neg zero = refl
 rounded-neg (suc n) = refl
 
 module _ (P : Plan) (T : Sharing) (C : Deciding) (h : History) (b : Books) (k : Kept T h b) where
-  penalties-penal : All (Penal b) (penalties b.desk)
+  penalties-penal : AllByRecursion (Penal b) (penalties b.desk)
   penalties-penal = All-map (Penal b) (penalty b.desk) (filter (short b.desk) institutions)
       (All-weaker (λ i. short b.desk i ≡ true) (λ i. Penal b (penalty b.desk i))
       (λ i q _. (ltb-true (b.desk i).collateral (b.desk i).requirement (and_parts (b.desk i).admitted (ltb (b.desk i).collateral (b.desk i).requirement) q).1, rounded-neg ((b.desk i).requirement - (b.desk i).collateral)))
       (filter (short b.desk) institutions) (kept_by_passes (short b.desk) institutions))
 
-  lines_penal : (r : ℕ) (hs : List Hedge) → All (On b.numbered) hs → All (Penal b) (map (line_of r) hs)
+  lines_penal : (r : ℕ) (hs : List Hedge) → AllByRecursion (On b.numbered) hs → AllByRecursion (Penal b) (map (line_of r) hs)
   lines_penal r hs a = All-map (Penal b) (line_of r) hs (All-weaker (On b.numbered) (λ x. Penal b (line_of r x)) (λ x o q. absurd (omega (arith, o.0, q))) hs a)
 
-  penal_answers : (c : Call) → All (Penal b) (answers P T C b c).lines
+  penal_answers : (c : Call) → AllByRecursion (Penal b) (answers P T C b c).lines
   penal_answers (admit i) = tt
   penal_answers (announce kd o c m) = tt
   penal_answers (bid n i q m) = tt
@@ -47,10 +47,10 @@ module _ (P : Plan) (T : Sharing) (C : Deciding) (h : History) (b : Books) (k : 
   penal_answers (release i z) = tt
   penal_answers (terminate n) = lines_penal b.rate (filter (of_number (nat_abs n)) b.hedges) (all_kept_by (of_number (nat_abs n)) (On b.numbered) b.hedges k.placed.places)
 
-  penal_step : (c : Call) → All (Penal b) (step P T C b c).0.lines
+  penal_step : (c : Call) → AllByRecursion (Penal b) (step P T C b c).0.lines
   penal_step c = go (first (tests P T C b c))
     where
-      go : (o : Option Refusal) → All (Penal b) (judged o (answers P T C b c) b (after P T C b c)).0.lines
+      go : (o : Option Refusal) → AllByRecursion (Penal b) (judged o (answers P T C b c) b (after P T C b c)).0.lines
       go (Some why) = tt
       go None = penal_answers c
 

@@ -4,7 +4,7 @@ use Rattle.std.proofs.lemmas.Bool.{ne_eqb, eq-eqb, eqb-true, both_ways, and_righ
 use Rattle.std.proofs.lemmas.List.{append-nil, length-map}
 use Rattle.std.proofs.lemmas.List.Elements.{filter-append}
 use Rattle.std.proofs.ByRecursion.{All-append, All-weaker, All-map, all_kept_by}
-use Rattle.std.specs.List.{AllByRecursion as All}
+use Rattle.std.specs.List.{AllByRecursion}
 use Rattle.rules.proofs.Arith.{near_none}
 use Rattle.rules.proofs.Ledger.{ToInstitution}
 use Rattle.rules.proofs.Allotment.{Sound}
@@ -53,11 +53,11 @@ pub record Known (h : History) (hs : List Hedge) (m : ℕ) (g : Deal) : Type 0 w
 
 pub record Placed (T : Sharing) (h : History) (day rate : ℕ) (hs : List Hedge) (m : ℕ) : Type 0 where
   pub current : rate_now h ≡ rate
-  pub places : All (On m) hs
+  pub places : AllByRecursion (On m) hs
   pub apart : (n : ℕ) → length (at_place n hs) ≤ 1
-  pub lines : All (λ l. l.hedge ≤ m) (told h)
+  pub lines : AllByRecursion (λ l. l.hedge ≤ m) (told h)
   pub unclosed : (g : Deal) → m < g.number → day < g.maturity → closed_at g h ≡ None
-  pub known : All (Known h hs m) (dealt T h)
+  pub known : AllByRecursion (Known h hs m) (dealt T h)
 
 -- ---- a call that nothing.lines, closes nothing and publishes nothing
 pub placed_quiet : (T : Sharing) (e : Entry) (h : History) (day rate : ℕ) (hs : List Hedge) (m : ℕ)
@@ -67,23 +67,23 @@ placed_quiet T e h day rate hs m none open' same deals p = record {
   current = same ∙ p.current;
   places = p.places;
   apart = p.apart;
-  lines = subst (λ (ls : List Line). All (λ l. l.hedge ≤ m) (ls ++ told h)) (sym none) p.lines;
+  lines = subst (λ (ls : List Line). AllByRecursion (λ l. l.hedge ≤ m) (ls ++ told h)) (sym none) p.lines;
   unclosed = λ g n d. closed_same e h g (open' g) ∙ p.unclosed g n d;
-  known = subst (All (Known (e ∷ h) hs m)) (sym deals) (All-weaker (Known h hs m) (Known (e ∷ h) hs m)
+  known = subst (AllByRecursion (Known (e ∷ h) hs m)) (sym deals) (All-weaker (Known h hs m) (Known (e ∷ h) hs m)
       (λ g k. record { least = k.least; most = k.most; lived = lived_quiet e h hs hs g (ap (lines_of g.number) none) (open' g) refl k.lived }) (dealt T h) p.known);
 }
 
 -- ---- lines and their institutions
-pub penalties-to : (desk : ℕ → Desk) → All ToInstitution (penalties desk)
+pub penalties-to : (desk : ℕ → Desk) → AllByRecursion ToInstitution (penalties desk)
 penalties-to desk = All-map ToInstitution (penalty desk) (filter (short desk) institutions) (all_kept_by (short desk) (λ i. (1 ≤ i) × (i < 17)) institutions (omega arith))
 
-pub lines_to : (m r : ℕ) (hs : List Hedge) → All (On m) hs → All ToInstitution (map (line_of r) hs)
+pub lines_to : (m r : ℕ) (hs : List Hedge) → AllByRecursion (On m) hs → AllByRecursion ToInstitution (map (line_of r) hs)
 lines_to m r hs h = All-map ToInstitution (line_of r) hs (All-weaker (On m) (λ x. (1 ≤ x.deal.institution) × (x.deal.institution < 17)) (λ x o. (o.2, o.3)) hs h)
 
-lines_known : (m r : ℕ) (hs : List Hedge) → All (On m) hs → All (λ l. l.hedge ≤ m) (map (line_of r) hs)
+lines_known : (m r : ℕ) (hs : List Hedge) → AllByRecursion (On m) hs → AllByRecursion (λ l. l.hedge ≤ m) (map (line_of r) hs)
 lines_known m r hs h = All-map (λ l. l.hedge ≤ m) (line_of r) hs (All-weaker (On m) (λ x. x.deal.number ≤ m) (λ x o. o.1) hs h)
 
-penalties-known : (m : ℕ) (desk : ℕ → Desk) (is : List ℕ) → All (λ l. l.hedge ≤ m) (map (penalty desk) is)
+penalties-known : (m : ℕ) (desk : ℕ → Desk) (is : List ℕ) → AllByRecursion (λ l. l.hedge ≤ m) (map (penalty desk) is)
 penalties-known m desk [] = tt
 penalties-known m desk (i ∷ is) = (omega arith, penalties-known m desk is)
 
@@ -140,7 +140,7 @@ placed_fix T C d r room count desk h day rate hs m later p = record {
         v
 
 -- ---- terminate
-pub none_here : (k m : ℕ) (hs : List Hedge) → m < k → All (On m) hs → here k hs ≡ []
+pub none_here : (k m : ℕ) (hs : List Hedge) → m < k → AllByRecursion (On m) hs → here k hs ≡ []
 none_here k m hs lt h = kept_none (of_number k) hs (All-weaker (On m) (λ x. of_number k x ≡ false) (λ x o. and_right x.live (eqb x.deal.number k) (ne_eqb x.deal.number k (λ q. omega (arith, o.1)))) hs h)
 
 pub placed_end : (T : Sharing) (n : ℤ) (line : Line) (h : History) (day rate : ℕ) (hs : List Hedge) (m : ℕ) → eqb (length (here (nat_abs n) hs)) 0 ≡ false → Placed T h day rate hs m
@@ -191,15 +191,15 @@ numbered_rising n r t (x ∷ xs) = go (eqb x.dollars 0) (numbered_rising n r t x
     go true i j = i
     go false i j = (refl, j)
 
-pub rising_bounds : (n : ℕ) (ds : List Deal) → Rising n ds → All (λ g. (n ≤ g.number) × (g.number < n + length ds)) ds
+pub rising_bounds : (n : ℕ) (ds : List Deal) → Rising n ds → AllByRecursion (λ g. (n ≤ g.number) × (g.number < n + length ds)) ds
 rising_bounds n [] h = tt
 rising_bounds n (d ∷ ds) h = ((omega (arith, h.0), omega (arith, h.0)), All-weaker (λ g. (suc n ≤ g.number) × (g.number < suc n + length ds)) (λ g. (n ≤ g.number) × (g.number < n + suc (length ds))) (λ g k. (omega arith, omega arith)) ds (rising_bounds (suc n) ds h.1))
 
-pub here-fresh_none : (day k : ℕ) (ds : List Deal) → All (λ g. k < g.number) ds → here k (map (fresh day) ds) ≡ []
+pub here-fresh_none : (day k : ℕ) (ds : List Deal) → AllByRecursion (λ g. k < g.number) ds → here k (map (fresh day) ds) ≡ []
 here-fresh_none day k [] h = refl
 here-fresh_none day k (d ∷ ds) h = ap (λ t. cond t (fresh day d ∷ here k (map (fresh day) ds)) (here k (map (fresh day) ds))) (ne_eqb d.number k (λ q. omega (arith, h.0))) ∙ here-fresh_none day k ds h.1
 
-rising_here : (day n : ℕ) (ds : List Deal) → Rising n ds → All (λ g. here g.number (map (fresh day) ds) ≡ fresh day g ∷ []) ds
+rising_here : (day n : ℕ) (ds : List Deal) → Rising n ds → AllByRecursion (λ g. here g.number (map (fresh day) ds) ≡ fresh day g ∷ []) ds
 rising_here day n [] h = tt
 rising_here day n (d ∷ ds) h = (
   first,
@@ -208,7 +208,7 @@ rising_here day n (d ∷ ds) h = (
       ds (both ds (rising_bounds (suc n) ds h.1) (rising_here day (suc n) ds h.1)),
 )
   where
-    both : (es : List Deal) → All (λ g. (suc n ≤ g.number) × (g.number < suc n + length ds)) es → All (λ g. here g.number (map (fresh day) ds) ≡ fresh day g ∷ []) es → All (λ g. (suc n ≤ g.number) × (here g.number (map (fresh day) ds) ≡ fresh day g ∷ [])) es
+    both : (es : List Deal) → AllByRecursion (λ g. (suc n ≤ g.number) × (g.number < suc n + length ds)) es → AllByRecursion (λ g. here g.number (map (fresh day) ds) ≡ fresh day g ∷ []) es → AllByRecursion (λ g. (suc n ≤ g.number) × (here g.number (map (fresh day) ds) ≡ fresh day g ∷ [])) es
     both [] a b = tt
     both (g ∷ es) a b = ((a.0.0, b.0), both es a.1 b.1)
 
@@ -233,12 +233,12 @@ numbered_none n k r t (x ∷ xs) h = go (eqb x.dollars 0) h (λ q. numbered_none
     go false q ih = absurd (omega (arith, q))
 
 -- what holds of the terms' maturity and of each bid's institution holds of each deal
-pub numbered_all : (n r : ℕ) (t : Terms) (gs : List Got) → All (λ x. Sound x.of) gs → All (λ g. (g.maturity ≡ t.maturity) × (1 ≤ g.institution) × (g.institution < 17)) (numbered_from n r t gs)
+pub numbered_all : (n r : ℕ) (t : Terms) (gs : List Got) → AllByRecursion (λ x. Sound x.of) gs → AllByRecursion (λ g. (g.maturity ≡ t.maturity) × (1 ≤ g.institution) × (g.institution < 17)) (numbered_from n r t gs)
 numbered_all n r t [] h = tt
 numbered_all n r t (x ∷ xs) h = go (eqb x.dollars 0) (numbered_all n r t xs h.1) (numbered_all (suc n) r t xs h.1)
   where
-    go : (b : Bool) → All (λ g. (g.maturity ≡ t.maturity) × (1 ≤ g.institution) × (g.institution < 17)) (numbered_from n r t xs) → All (λ g. (g.maturity ≡ t.maturity) × (1 ≤ g.institution) × (g.institution < 17)) (numbered_from (suc n) r t xs)
-        → All (λ g. (g.maturity ≡ t.maturity) × (1 ≤ g.institution) × (g.institution < 17)) (cond b (numbered_from n r t xs) (deal_of n r t x ∷ numbered_from (suc n) r t xs))
+    go : (b : Bool) → AllByRecursion (λ g. (g.maturity ≡ t.maturity) × (1 ≤ g.institution) × (g.institution < 17)) (numbered_from n r t xs) → AllByRecursion (λ g. (g.maturity ≡ t.maturity) × (1 ≤ g.institution) × (g.institution < 17)) (numbered_from (suc n) r t xs)
+        → AllByRecursion (λ g. (g.maturity ≡ t.maturity) × (1 ≤ g.institution) × (g.institution < 17)) (cond b (numbered_from n r t xs) (deal_of n r t x ∷ numbered_from (suc n) r t xs))
     go true i j = i
     go false i j = ((refl, h.0.0, h.0.1), j)
 
@@ -260,13 +260,13 @@ late-none g (x ∷ h) c = ap₂ (λ o ys. if_closed o (lines_of g.number x.lines
     before (Some r) p q = q
     before None p q = refl
 
-all_both : {X : Type 0} (P Q : X → Type 0) (xs : List X) → All P xs → All Q xs → All (λ x. P x × Q x) xs
+all_both : {X : Type 0} (P Q : X → Type 0) (xs : List X) → AllByRecursion P xs → AllByRecursion Q xs → AllByRecursion (λ x. P x × Q x) xs
 all_both P Q [] a b = tt
 all_both P Q (x ∷ xs) a b = ((a.0, b.0), all_both P Q xs a.1 b.1)
 
 pub placed_publish : (T : Sharing) (n first count : ℕ) (h : History) (day rate : ℕ) (hs : List Hedge) (m : ℕ) (ds : List Deal)
     → dealt T (record { call = publish n; answer = Published first count; lines = [] } ∷ h) ≡ ds ++ dealt T h
-    → Rising (suc m) ds → All (λ g. (day < g.maturity) × (1 ≤ g.institution) × (g.institution < 17)) ds
+    → Rising (suc m) ds → AllByRecursion (λ g. (day < g.maturity) × (1 ≤ g.institution) × (g.institution < 17)) ds
     → Placed T h day rate hs m → Placed T (record { call = publish n; answer = Published first count; lines = [] } ∷ h) day rate (hs ++ map (fresh day) ds) (m + length ds)
 placed_publish T n first count h day rate hs m ds deals rising sound p = record {
   current = p.current;
@@ -276,7 +276,7 @@ placed_publish T n first count h day rate hs m ds deals rising sound p = record 
   apart = λ k. alone k (cases_lt m k);
   lines = All-weaker (λ l. l.hedge ≤ m) (λ l. l.hedge ≤ m + length ds) (λ l k. omega arith) (told h) p.lines;
   unclosed = λ g k d. closed_same e h g refl ∙ p.unclosed g (omega arith) d;
-  known = subst (All (Known (e ∷ h) hs' (m + length ds))) (sym deals) (All-append (Known (e ∷ h) hs' (m + length ds)) ds (dealt T h)
+  known = subst (AllByRecursion (Known (e ∷ h) hs' (m + length ds))) (sym deals) (All-append (Known (e ∷ h) hs' (m + length ds)) ds (dealt T h)
       (All-weaker (λ g. (Range g × Fine g) × (here g.number (map (fresh day) ds) ≡ fresh day g ∷ [])) (Known (e ∷ h) hs' (m + length ds))
       (λ g k. record { least = omega (arith, k.0.0.0); most = omega (arith, k.0.0.1); lived = born g k.0.0.0 k.0.1.0 k.1 })
       ds (all_both (λ g. Range g × Fine g) (λ g. here g.number (map (fresh day) ds) ≡ fresh day g ∷ []) ds (all_both Range Fine ds bounds sound) (rising_here day (suc m) ds rising)))
@@ -295,7 +295,7 @@ placed_publish T n first count h day rate hs m ds deals rising sound p = record 
     Fine : Deal → Type 0
     Fine g = (day < g.maturity) × (1 ≤ g.institution) × (g.institution < 17)
 
-    bounds : All Range ds
+    bounds : AllByRecursion Range ds
     bounds = rising_bounds (suc m) ds rising
 
     parts : (k : ℕ) → length (at_place k hs') ≡ length (at_place k hs) + length (here k (map (fresh day) ds))
@@ -314,7 +314,7 @@ placed_publish T n first count h day rate hs m ds deals rising sound p = record 
     born g least ahead place = record {
       close = subst₂ (λ (ls : List Line) (z : ℕ). near (50 * length ls) (pos 100 *ℤ sum_of ls) (pos g.dollars *ℤ (pos z -ℤ pos g.assigned))) (sym none) (sym settled) (near_none (pos g.dollars) (pos g.assigned));
       none_late = ap₂ (λ o ys. if_closed o [] ++ ys) unclosed (late-none g h unclosed);
-      whose = subst (All (λ l. l.institution ≡ g.institution)) (sym none) tt;
+      whose = subst (AllByRecursion (λ l. l.institution ≡ g.institution)) (sym none) tt;
       life = going (closed_same e h g refl ∙ unclosed) (fresh day g)
           (filter-append (of_number g.number) hs (map (fresh day) ds) ∙ ap₂ (λ xs ys. xs ++ ys) (none_here g.number m hs least p.places) place) refl (sym settled);
     }

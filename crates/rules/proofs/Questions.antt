@@ -1,6 +1,6 @@
 -- What questions answer after every call, and with it the law.
 use Rattle.std.proofs.Common.{◌≡◌, ℕ, suc, ◌+◌, ◌-◌, ◌<◌, ◌≤◌, Bool, false, cond, ◌&&◌, eqb, List, [], ◌∷◌, ◌++◌, map, length, ℤ, nat_abs, Some, None, filter, Option, sym, refl, ap, ◌∙◌, subst, ap₂, arith}
-use Rattle.std.specs.List.{AllByRecursion as All}
+use Rattle.std.specs.List.{AllByRecursion}
 use Rattle.std.proofs.lemmas.Bool.{ne_eqb}
 use Rattle.std.proofs.lemmas.List.{append-nil}
 use Rattle.std.proofs.lemmas.List.Elements.{filter-append}
@@ -28,20 +28,20 @@ use Rattle.rules.proofs.Stands.{Stood, dealt-announce, dealt-bid}
 use Rattle.rules.proofs.Rests.{Rest, rest_open, rest_quiet, rest_fix, rest_end, recorded, here_in, ask-none}
 use Rattle.rules.proofs.Runs.{Kept, kept_run, kept_after, passed, entry, publish_deals, stood_bidding, stood_sealed}
 
-pub all_two : {X : Type 0} (P Q R : X → Type 0) → ((x : X) → P x → Q x → R x) → (xs : List X) → All P xs → All Q xs → All R xs
+pub all_two : {X : Type 0} (P Q R : X → Type 0) → ((x : X) → P x → Q x → R x) → (xs : List X) → AllByRecursion P xs → AllByRecursion Q xs → AllByRecursion R xs
 all_two P Q R f [] a b = tt
 all_two P Q R f (x ∷ xs) a b = (f x a.0 b.0, all_two P Q R f xs a.1 b.1)
 
-pub all_split : {X : Type 0} (Q : X → Type 0) (xs ys : List X) → All Q (xs ++ ys) → All Q xs × All Q ys
+pub all_split : {X : Type 0} (Q : X → Type 0) (xs ys : List X) → AllByRecursion Q (xs ++ ys) → AllByRecursion Q xs × AllByRecursion Q ys
 all_split Q [] ys a = (tt, a)
 all_split Q (x ∷ xs) ys a = let q = all_split Q xs ys a.1 in ((a.0, q.0), q.1)
 
 -- what is published now has new numbers and matures after today
-pub new_ones : (P : Plan) (T : Sharing) (C : Deciding) (h : History) (b : Books) (k : Kept T h b) (n : ℕ) → All (λ t. t.1 ≡ false) (tests P T C b (publish n)) → All (λ g. (b.numbered < g.number) × (b.day < g.maturity)) (new_deals P T C b)
+pub new_ones : (P : Plan) (T : Sharing) (C : Deciding) (h : History) (b : Books) (k : Kept T h b) (n : ℕ) → AllByRecursion (λ t. t.1 ≡ false) (tests P T C b (publish n)) → AllByRecursion (λ g. (b.numbered < g.number) × (b.day < g.maturity)) (new_deals P T C b)
 new_ones P T C h b k n p = all_two (λ g. (suc b.numbered ≤ g.number) × (g.number < suc b.numbered + length (new_deals P T C b))) (λ g. (g.maturity ≡ terms.maturity) × (1 ≤ g.institution) × (g.institution < 17)) (λ g. (b.numbered < g.number) × (b.day < g.maturity))
     (λ g q r. (q.0, omega (arith, v.ahead, r.0))) (new_deals P T C b)
     (rising_bounds (suc b.numbered) (new_deals P T C b) (numbered_rising (suc b.numbered) b.rate terms (allotted T terms (standing b.auction).bids)))
-    (numbered_all (suc b.numbered) b.rate terms (allotted T terms (standing b.auction).bids) (allotted-all T terms Sound (standing b.auction).bids (subst (All Sound) (sym v.bids) (k.sold.taken n).sound)))
+    (numbered_all (suc b.numbered) b.rate terms (allotted T terms (standing b.auction).bids) (allotted-all T terms Sound (standing b.auction).bids (subst (AllByRecursion Sound) (sym v.bids) (k.sold.taken n).sound)))
   where
     v : Stood h b.day b.auction b.auctions n
     v = stood_sealed P T C h b k n p
@@ -51,19 +51,19 @@ new_ones P T C h b k n p = all_two (λ g. (suc b.numbered ≤ g.number) × (g.nu
 
 -- nothing stands on a place under a number that was never published
 abbrev Unknown : Sharing → History → List Hedge → Type 0
-Unknown T h hs = (n : ℕ) → All (λ g. g.number ≡ n → ⊥) (dealt T h) → at_place n hs ≡ []
+Unknown T h hs = (n : ℕ) → AllByRecursion (λ g. g.number ≡ n → ⊥) (dealt T h) → at_place n hs ≡ []
 
 pub record Rested (T : Sharing) (h : History) (hs : List Hedge) : Type 0 where
-  pub resting : All (Rest h hs) (dealt T h)
+  pub resting : AllByRecursion (Rest h hs) (dealt T h)
   pub unknown : Unknown T h hs
 
 module _ (P : Plan) (T : Sharing) (C : Deciding) (h : History) (b : Books) (k : Kept T h b) (s : Rested T h b.hedges) where
   -- a call that tells nothing, closes nothing, is no fix and leaves the hedges
   quiet : (e : Entry) → e.lines ≡ [] → ((g : Deal) → closes g e ≡ false) → fixing e ≡ None → dealt T (e ∷ h) ≡ dealt T h → Rested T (e ∷ h) b.hedges
   quiet e none still nofix deals = record {
-    resting = subst (All (Rest (e ∷ h) b.hedges)) (sym deals)
+    resting = subst (AllByRecursion (Rest (e ∷ h) b.hedges)) (sym deals)
         (All-weaker (Rest h b.hedges) (Rest (e ∷ h) b.hedges) (λ g r. rest_quiet e h b.hedges b.hedges g (ap (filter (λ l. eqb l.hedge g.number)) none) (still g) nofix refl r) (dealt T h) s.resting);
-    unknown = λ n a. s.unknown n (subst (All (λ g. g.number ≡ n → ⊥)) deals a);
+    unknown = λ n a. s.unknown n (subst (AllByRecursion (λ g. g.number ≡ n → ⊥)) deals a);
   }
 
   rested_fix : (d r : ℤ) (room : ℕ) → Kept T (entry P T C h b k (fix d r room) ∷ h) (after P T C b (fix d r room)) → Rested T (entry P T C h b k (fix d r room) ∷ h) (after P T C b (fix d r room)).hedges
@@ -123,12 +123,12 @@ module _ (P : Plan) (T : Sharing) (C : Deciding) (h : History) (b : Books) (k : 
       places : (m : ℕ) → at_place m hs' ≡ map turn (at_place m b.hedges)
       places m = kept_map turn (λ x. eqb x.deal.number m) b.hedges
 
-  rested_publish : (n : ℕ) → All (λ t. t.1 ≡ false) (tests P T C b (publish n)) → Rested T (entry P T C h b k (publish n) ∷ h) (after P T C b (publish n)).hedges
+  rested_publish : (n : ℕ) → AllByRecursion (λ t. t.1 ≡ false) (tests P T C b (publish n)) → Rested T (entry P T C h b k (publish n) ∷ h) (after P T C b (publish n)).hedges
   rested_publish n p = record {
-    resting = subst (All (Rest (e ∷ h) hs')) (sym deals) (All-append (Rest (e ∷ h) hs') ds (dealt T h)
+    resting = subst (AllByRecursion (Rest (e ∷ h) hs')) (sym deals) (All-append (Rest (e ∷ h) hs') ds (dealt T h)
         (All-weaker New (Rest (e ∷ h) hs') (λ g q. rest_open (e ∷ h) hs' g (closed_same e h g refl ∙ k.placed.unclosed g q.0 q.1)) ds news)
         (all_two (Known h b.hedges b.numbered) (Rest h b.hedges) (Rest (e ∷ h) hs') (λ g u r. rest_quiet e h b.hedges hs' g refl refl refl (old g.number u.most) r) (dealt T h) k.placed.known s.resting));
-    unknown = λ m a. let q = all_split (λ g. g.number ≡ m → ⊥) ds (dealt T h) (subst (All (λ g. g.number ≡ m → ⊥)) deals a) in
+    unknown = λ m a. let q = all_split (λ g. g.number ≡ m → ⊥) ds (dealt T h) (subst (AllByRecursion (λ g. g.number ≡ m → ⊥)) deals a) in
         filter-append (λ x. eqb x.deal.number m) b.hedges (map (fresh b.day) ds) ∙ ap₂ (λ xs ys. xs ++ ys) (s.unknown m q.1) (fresh-none m ds q.0);
   }
     where
@@ -150,10 +150,10 @@ module _ (P : Plan) (T : Sharing) (C : Deciding) (h : History) (b : Books) (k : 
       New : Deal → Type 0
       New g = (b.numbered < g.number) × (b.day < g.maturity)
 
-      news : All New ds
+      news : AllByRecursion New ds
       news = new_ones P T C h b k n p
 
-      fresh-none : (m : ℕ) (gs : List Deal) → All (λ g. g.number ≡ m → ⊥) gs → at_place m (map (fresh b.day) gs) ≡ []
+      fresh-none : (m : ℕ) (gs : List Deal) → AllByRecursion (λ g. g.number ≡ m → ⊥) gs → at_place m (map (fresh b.day) gs) ≡ []
       fresh-none m [] a = refl
       fresh-none m (g ∷ gs) a = ap (λ t. cond t (fresh b.day g ∷ at_place m (map (fresh b.day) gs)) (at_place m (map (fresh b.day) gs))) (ne_eqb g.number m a.0) ∙ fresh-none m gs a.1
 
@@ -161,7 +161,7 @@ module _ (P : Plan) (T : Sharing) (C : Deciding) (h : History) (b : Books) (k : 
       old m most = filter-append (λ x. eqb x.deal.number m) b.hedges (map (fresh b.day) ds)
           ∙ ap (λ ys. at_place m b.hedges ++ ys) (fresh-none m ds (All-weaker New (λ g. g.number ≡ m → ⊥) (λ g q r. omega (arith, q.0)) ds news)) ∙ append-nil (at_place m b.hedges)
 
-  rested_after : (c : Call) → All (λ t. t.1 ≡ false) (tests P T C b c) → Rested T (entry P T C h b k c ∷ h) (after P T C b c).hedges
+  rested_after : (c : Call) → AllByRecursion (λ t. t.1 ≡ false) (tests P T C b c) → Rested T (entry P T C h b k c ∷ h) (after P T C b c).hedges
   rested_after (admit i) p = quiet (entry P T C h b k (admit i)) refl (λ g. refl) refl refl
   rested_after (announce kd o c m) p = quiet (entry P T C h b k (announce kd o c m)) refl (λ g. refl) refl (dealt-announce T h b.day b.auction b.auctions kd o c m k.sold)
   rested_after (bid n i q m) p = quiet (entry P T C h b k (bid n i q m)) refl (λ g. refl) refl (dealt-bid T h b.day b.auction b.auctions n i q m (stood_bidding P T C h b k n i q m p))
@@ -185,7 +185,7 @@ rested_run : (P : Plan) (T : Sharing) (C : Deciding) (free : ℕ) (calls : List 
 rested_run P T C free [] = record { resting = tt; unknown = λ n a. refl }
 rested_run P T C free (c ∷ cs) = rested_step P T C (run P T C free cs).history (run P T C free cs).books (kept_run P T C free cs) (rested_run P T C free cs) c
 
-all_of : {X : Type 0} (Q : X → Type 0) (xs : List X) → ((x : X) → Q x) → All Q xs
+all_of : {X : Type 0} (Q : X → Type 0) (xs : List X) → ((x : X) → Q x) → AllByRecursion Q xs
 all_of Q [] f = tt
 all_of Q (x ∷ xs) f = (f x, all_of Q xs f)
 

@@ -1,6 +1,6 @@
 -- What a question for a hedge answers after it has closed, and for a number that was never published.
 use Rattle.std.proofs.Common.{◌≡◌, ℕ, ◌≤◌, Bool, true, false, cond, not, ◌&&◌, eqb, List, [], ◌∷◌, map, length, is_some, Some, None, filter, Option, sym, refl, ap, ◌∙◌, subst, arith}
-use Rattle.std.specs.List.{AllByRecursion as All}
+use Rattle.std.specs.List.{AllByRecursion}
 use Rattle.std.proofs.lemmas.Bool.{both_ways, and_parts, and_right}
 use Rattle.std.proofs.ByRecursion.{kept_by_passes}
 use Rattle.rules.specs.declared.hedge.Deal.{Deal}
@@ -72,7 +72,7 @@ place_one n hs x e l = go (at_place n hs) (sym (here_in n hs) ∙ e) l
         by false i = absurd (omega (arith, ap length i))
 
 pub was_live : (n : ℕ) (hs : List Hedge) (x : Hedge) → here n hs ≡ x ∷ [] → x.live ≡ true
-was_live n hs x k = (and_parts x.live (eqb x.deal.number n) (subst (All (λ x. of_number n x ≡ true)) k (kept_by_passes (of_number n) hs)).0).0
+was_live n hs x k = (and_parts x.live (eqb x.deal.number n) (subst (AllByRecursion (λ x. of_number n x ≡ true)) k (kept_by_passes (of_number n) hs)).0).0
 
 -- ---- a hedge that has closed
 pub record Rest (h : History) (hs : List Hedge) (g : Deal) : Type 0 where

@@ -4,7 +4,7 @@ use lib.Signed.{le_z, lt_z}
 use Rattle.std.proofs.lemmas.Int.{ints}
 use Rattle.std.proofs.lemmas.Bool.{or_parts, and_parts, not-false, leb-false, eqb-true}
 use Rattle.std.proofs.ByRecursion.{All-append, All-weaker, all_kept_by}
-use Rattle.std.specs.List.{AllByRecursion as All}
+use Rattle.std.specs.List.{AllByRecursion}
 use Rattle.rules.proofs.Ledger.{ToInstitution, posted-balanced, quiet_balanced}
 use Rattle.rules.proofs.Allotment.{Sound, allotted-all}
 use Rattle.rules.proofs.Places.{Placed, On, placed_quiet, placed_fix, placed_end, placed_publish, penalties-to, lines_to, numbered_rising, numbered_none, numbered_all}
@@ -35,11 +35,11 @@ pub record Kept (T : Sharing) (h : History) (b : Books) : Type 0 where
   pub sold : Sold h b.day b.auction b.auctions
 
 -- every test of an accepted call failed
-pub passed : (ts : List (Refusal × Bool)) → first ts ≡ None → All (λ t. t.1 ≡ false) ts
+pub passed : (ts : List (Refusal × Bool)) → first ts ≡ None → AllByRecursion (λ t. t.1 ≡ false) ts
 passed [] e = tt
 passed (t ∷ ts) e = go t.1 refl e (λ q. passed ts q)
   where
-    go : (b : Bool) → t.1 ≡ b → cond b (Some t.0) (first ts) ≡ None → (first ts ≡ None → All (λ t. t.1 ≡ false) ts) → All (λ t. t.1 ≡ false) (t ∷ ts)
+    go : (b : Bool) → t.1 ≡ b → cond b (Some t.0) (first ts) ≡ None → (first ts ≡ None → AllByRecursion (λ t. t.1 ≡ false) ts) → AllByRecursion (λ t. t.1 ≡ false) (t ∷ ts)
     go true q n ih = let z : ◌≡◌ {A = ℕ} 0 1 = cc in absurd (omega arith)
     go false q n ih = (q, ih n)
 
@@ -78,18 +78,18 @@ module _ (P : Plan) (T : Sharing) (C : Deciding) (h : History) (b : Books) (k : 
     sold = s;
   }
 
-  kept_announce : (kd o c m : ℤ) → All (λ t. t.1 ≡ false) (tests P T C b (announce kd o c m)) → Kept T (entry (announce kd o c m) ∷ h) (after P T C b (announce kd o c m))
+  kept_announce : (kd o c m : ℤ) → AllByRecursion (λ t. t.1 ≡ false) (tests P T C b (announce kd o c m)) → Kept T (entry (announce kd o c m) ∷ h) (after P T C b (announce kd o c m))
   kept_announce kd o c m p = kept_auction (announce kd o c m) (Some (record { ticket = bidding (suc b.auctions); terms = terms_given kd o c m; bids = [] })) (suc b.auctions) refl (λ g. refl) refl (dealt-announce T h b.day b.auction b.auctions kd o c m k.sold)
       (sold_announce h b.day b.auction b.auctions kd o c m
       (bounds 1 2000 o (omega arith) (and_parts (is_millions o) (is_millions c) (not-false (is_millions o && is_millions c) p.0)).0).1
       (beyond m b.day p.1.1.1.1.1.1.0) k.sold)
 
-  kept_bid : (n : ℕ) (i q m : ℤ) → All (λ t. t.1 ≡ false) (tests P T C b (bid n i q m)) → Kept T (entry (bid n i q m) ∷ h) (after P T C b (bid n i q m))
+  kept_bid : (n : ℕ) (i q m : ℤ) → AllByRecursion (λ t. t.1 ≡ false) (tests P T C b (bid n i q m)) → Kept T (entry (bid n i q m) ∷ h) (after P T C b (bid n i q m))
   kept_bid n i q m p = kept_auction (bid n i q m) (Some (record { ticket = bidding n; terms = (standing b.auction).terms; bids = entered (bid_given i q m) (standing b.auction).bids })) b.auctions refl (λ g. refl) refl (dealt-bid T h b.day b.auction b.auctions n i q m (k.sold.stood (bidding n) (not-false (holds b.auction (bidding n)) p.0)))
       (sold_bid h b.day b.auction b.auctions n i q m (not-false (holds b.auction (bidding n)) p.0) (leb-false 64 (length (standing b.auction).bids) p.1.1.1.1.1.0)
       (let u = bounds 1 16 i (omega arith) (not-false (is_institution i) p.1.0) in let v = bounds 1 2000 m (omega arith) (not-false (is_millions m) p.1.1.0) in (u.0, omega (arith, u.1), v.0, v.1)) k.sold)
 
-  kept_seal : (n : ℕ) → All (λ t. t.1 ≡ false) (tests P T C b (seal n)) → Kept T (entry (seal n) ∷ h) (after P T C b (seal n))
+  kept_seal : (n : ℕ) → AllByRecursion (λ t. t.1 ≡ false) (tests P T C b (seal n)) → Kept T (entry (seal n) ∷ h) (after P T C b (seal n))
   kept_seal n p = kept_auction (seal n) (Some (record { ticket = sealed n; terms = (standing b.auction).terms; bids = (standing b.auction).bids })) b.auctions refl (λ g. refl) refl refl
       (sold_as (entry (seal n)) h b.day b.day b.auction (Some (record { ticket = sealed n; terms = (standing b.auction).terms; bids = (standing b.auction).bids })) b.auctions (λ _. refl) (λ _. refl) refl
       (sealed-stands h b.day b.auction b.auctions n (k.sold.stood (bidding n) (not-false (holds b.auction (bidding n)) p.0))) k.sold)
@@ -98,10 +98,10 @@ module _ (P : Plan) (T : Sharing) (C : Deciding) (h : History) (b : Books) (k : 
   kept_void t = kept_auction (void t) None b.auctions refl (λ g. refl) refl refl
       (sold_as (entry (void t)) h b.day b.day b.auction None b.auctions (λ _. refl) (λ _. refl) refl (none_stands h b.day None b.auctions refl) k.sold)
 
-  pub stood_bidding : (n : ℕ) (i q m : ℤ) → All (λ t. t.1 ≡ false) (tests P T C b (bid n i q m)) → Stood h b.day b.auction b.auctions n
+  pub stood_bidding : (n : ℕ) (i q m : ℤ) → AllByRecursion (λ t. t.1 ≡ false) (tests P T C b (bid n i q m)) → Stood h b.day b.auction b.auctions n
   stood_bidding n i q m p = k.sold.stood (bidding n) (not-false (holds b.auction (bidding n)) p.0)
 
-  pub stood_sealed : (n : ℕ) → All (λ t. t.1 ≡ false) (tests P T C b (publish n)) → Stood h b.day b.auction b.auctions n
+  pub stood_sealed : (n : ℕ) → AllByRecursion (λ t. t.1 ≡ false) (tests P T C b (publish n)) → Stood h b.day b.auction b.auctions n
   stood_sealed n p = k.sold.stood (sealed n) (not-false (holds b.auction (sealed n)) p.0)
 
   -- the deals that the history has of the publication are those that the books have
@@ -125,7 +125,7 @@ module _ (P : Plan) (T : Sharing) (C : Deciding) (h : History) (b : Books) (k : 
   pub publish_deals : (n : ℕ) → Stood h b.day b.auction b.auctions n → dealt T (entry (publish n) ∷ h) ≡ new_deals P T C b ++ dealt T h
   publish_deals n v = ap (λ ds. ds ++ dealt T h) (publish_new n v)
 
-  kept_publish : (n : ℕ) → All (λ t. t.1 ≡ false) (tests P T C b (publish n)) → Kept T (entry (publish n) ∷ h) (after P T C b (publish n))
+  kept_publish : (n : ℕ) → AllByRecursion (λ t. t.1 ≡ false) (tests P T C b (publish n)) → Kept T (entry (publish n) ∷ h) (after P T C b (publish n))
   kept_publish n p = record {
     balanced = quiet_balanced (entry (publish n)) h b (after P T C b (publish n)) refl refl k.balanced;
     placed = placed_publish T n (cond (eqb (length (new_deals P T C b)) 0) 0 (suc b.numbered)) (length (new_deals P T C b)) h b.day b.rate b.hedges b.numbered (new_deals P T C b)
@@ -133,7 +133,7 @@ module _ (P : Plan) (T : Sharing) (C : Deciding) (h : History) (b : Books) (k : 
         (All-weaker (λ g. (g.maturity ≡ (standing b.auction).terms.maturity) × (1 ≤ g.institution) × (g.institution < 17)) (λ g. (b.day < g.maturity) × (1 ≤ g.institution) × (g.institution < 17))
         (λ g q. (omega (arith, v.ahead, q.0), q.1, q.2)) (new_deals P T C b)
         (numbered_all (suc b.numbered) b.rate (standing b.auction).terms (allotted T (standing b.auction).terms (standing b.auction).bids)
-        (allotted-all T (standing b.auction).terms Sound (standing b.auction).bids (subst (All Sound) (sym v.bids) (k.sold.taken n).sound))))
+        (allotted-all T (standing b.auction).terms Sound (standing b.auction).bids (subst (AllByRecursion Sound) (sym v.bids) (k.sold.taken n).sound))))
         k.placed;
     sold = sold_publish n (cond (eqb (length (new_deals P T C b)) 0) 0 (suc b.numbered)) (length (new_deals P T C b)) h b.day b.auction b.auctions v.old k.sold;
   }
@@ -141,7 +141,7 @@ module _ (P : Plan) (T : Sharing) (C : Deciding) (h : History) (b : Books) (k : 
       v : Stood h b.day b.auction b.auctions n
       v = k.sold.stood (sealed n) (not-false (holds b.auction (sealed n)) p.0)
 
-  kept_fix : (d r : ℤ) (room : ℕ) → All (λ t. t.1 ≡ false) (tests P T C b (fix d r room)) → Kept T (entry (fix d r room) ∷ h) (after P T C b (fix d r room))
+  kept_fix : (d r : ℤ) (room : ℕ) → AllByRecursion (λ t. t.1 ≡ false) (tests P T C b (fix d r room)) → Kept T (entry (fix d r room) ∷ h) (after P T C b (fix d r room))
   kept_fix d r room p = record {
     balanced = posted-balanced (entry (fix d r room)) h b (after P T C b (fix d r room))
         (All-append ToInstitution (penalties b.desk) (map (line_of (nat_abs r)) payers) (penalties-to b.desk)
@@ -155,7 +155,7 @@ module _ (P : Plan) (T : Sharing) (C : Deciding) (h : History) (b : Books) (k : 
       payers : List Hedge
       payers = filter (pays C (nat_abs d) (nat_abs r)) (open_ones b.hedges)
 
-  kept_terminate : (n : ℤ) → All (λ t. t.1 ≡ false) (tests P T C b (terminate n)) → Kept T (entry (terminate n) ∷ h) (after P T C b (terminate n))
+  kept_terminate : (n : ℤ) → AllByRecursion (λ t. t.1 ≡ false) (tests P T C b (terminate n)) → Kept T (entry (terminate n) ∷ h) (after P T C b (terminate n))
   kept_terminate n p = record {
     balanced = posted-balanced (entry (terminate n)) h b (after P T C b (terminate n))
         (lines_to b.numbered b.rate (filter (of_number (nat_abs n)) b.hedges) (all_kept_by (of_number (nat_abs n)) (On b.numbered) b.hedges k.placed.places)) refl k.balanced;
@@ -163,7 +163,7 @@ module _ (P : Plan) (T : Sharing) (C : Deciding) (h : History) (b : Books) (k : 
     sold = sold_as (entry (terminate n)) h b.day b.day b.auction b.auction b.auctions (λ _. refl) (λ _. refl) refl k.sold.stood k.sold;
   }
 
-  pub kept_after : (c : Call) → All (λ t. t.1 ≡ false) (tests P T C b c) → Kept T (entry c ∷ h) (after P T C b c)
+  pub kept_after : (c : Call) → AllByRecursion (λ t. t.1 ≡ false) (tests P T C b c) → Kept T (entry c ∷ h) (after P T C b c)
   kept_after (admit i) p = kept_desk (admit i) _ _ refl (λ g. refl) refl refl (λ _. refl) (λ _. refl) refl
   kept_after (announce kd o c m) p = kept_announce kd o c m p
   kept_after (bid n i q m) p = kept_bid n i q m p

@@ -7,7 +7,7 @@ use Rattle.std.proofs.lemmas.Bool.{both_ways, or_parts, not-false, ltb-false, eq
 use Rattle.std.proofs.lemmas.List.{length-map}
 use Rattle.std.proofs.lemmas.List.Elements.{filter-append}
 use Rattle.std.proofs.ByRecursion.{All-append, All-weaker, all_kept_by, All-map}
-use Rattle.std.specs.List.{AllByRecursion as All}
+use Rattle.std.specs.List.{AllByRecursion}
 use Rattle.rules.proofs.Allotment.{Sound, Sorted, allotted-keeps, allotted-all, entered_all}
 use Rattle.rules.proofs.Lives.{here, here-turned, here-turned_open}
 use Rattle.rules.proofs.Places.{length_both, rising_single, Rising, none_here, rising_bounds, here-fresh_none, numbered_rising}
@@ -51,7 +51,7 @@ pub rounded-fits : (z : ℤ) (m : ℕ) → nat_abs z ≤ m → 100 * nat_abs (ro
 rounded-fits (pos n) m h = omega arith
 rounded-fits (negsuc n) m h = omega (arith, abs_is (neg_ℤ (pos ((suc n + 50) / 100))), neg_is (pos ((suc n + 50) / 100)))
 
-value_fits : (r : ℕ) (xs : List Hedge) → r ≤ 999999 → All Fit xs → nat_abs (sum_by (worth r) xs) ≤ length xs * 2000000000000000
+value_fits : (r : ℕ) (xs : List Hedge) → r ≤ 999999 → AllByRecursion Fit xs → nat_abs (sum_by (worth r) xs) ≤ length xs * 2000000000000000
 value_fits r [] h f = omega arith
 value_fits r (x ∷ xs) h f = go (worth r x) (sum_by (worth r) xs) (worth-fits r x h f.0) (value_fits r xs h f.1)
   where
@@ -79,8 +79,8 @@ Priced kind rate x = nat_abs (assigned_rate kind rate x.price) ≤ 999999
 
 record Sized (h : History) (b : Books) (free : ℕ) : Type 0 where
   rate : b.rate ≤ 999999
-  priced : All (Priced (standing b.auction).terms.kind b.rate) (standing b.auction).bids
-  fit : All Fit b.hedges
+  priced : AllByRecursion (Priced (standing b.auction).terms.kind b.rate) (standing b.auction).bids
+  fit : AllByRecursion Fit b.hedges
   few : length b.hedges ≤ 128
   single : (n : ℕ) → length (here n b.hedges) ≤ 1
   guarantee : (i : ℕ) → (b.desk i).requirement ≤ 2560000000000000
@@ -93,19 +93,19 @@ price_fits : (k : Kind) (rate : ℕ) (p : ℤ) → is_price k rate p ≡ true �
 price_fits initial rate p e = a_rate p e
 price_fits maturing rate p e = a_rate (p +ℤ pos rate) (and_parts (is_units p) (is_rate (p +ℤ pos rate)) e).1
 
-numbered_each : (Q : Got → Type 0) (R : Deal → Type 0) (r : ℕ) (t : Terms) → ((n : ℕ) (x : Got) → Q x → R (deal_of n r t x)) → (n : ℕ) (gs : List Got) → All Q gs → All R (numbered_from n r t gs)
+numbered_each : (Q : Got → Type 0) (R : Deal → Type 0) (r : ℕ) (t : Terms) → ((n : ℕ) (x : Got) → Q x → R (deal_of n r t x)) → (n : ℕ) (gs : List Got) → AllByRecursion Q gs → AllByRecursion R (numbered_from n r t gs)
 numbered_each Q R r t f n [] h = tt
 numbered_each Q R r t f n (x ∷ xs) h = go (eqb x.dollars 0) (numbered_each Q R r t f n xs h.1) (numbered_each Q R r t f (suc n) xs h.1)
   where
-    go : (b : Bool) → All R (numbered_from n r t xs) → All R (numbered_from (suc n) r t xs) → All R (cond b (numbered_from n r t xs) (deal_of n r t x ∷ numbered_from (suc n) r t xs))
+    go : (b : Bool) → AllByRecursion R (numbered_from n r t xs) → AllByRecursion R (numbered_from (suc n) r t xs) → AllByRecursion R (cond b (numbered_from n r t xs) (deal_of n r t x ∷ numbered_from (suc n) r t xs))
     go true i j = i
     go false i j = (f n x h.0, j)
 
-all_both : {X : Type 0} (P Q : X → Type 0) (xs : List X) → All P xs → All Q xs → All (λ x. P x × Q x) xs
+all_both : {X : Type 0} (P Q : X → Type 0) (xs : List X) → AllByRecursion P xs → AllByRecursion Q xs → AllByRecursion (λ x. P x × Q x) xs
 all_both P Q [] a b = tt
 all_both P Q (x ∷ xs) a b = ((a.0, b.0), all_both P Q xs a.1 b.1)
 
-no-bids : (Q : Bid → Type 0) (o : Option Auction) → stands o ≡ false → All Q (standing o).bids
+no-bids : (Q : Bid → Type 0) (o : Option Auction) → stands o ≡ false → AllByRecursion Q (standing o).bids
 no-bids Q None e = tt
 no-bids Q (Some a) e = absurd (both_ways true e refl)
 
@@ -117,10 +117,10 @@ turned-fits : (paid shut : Bool) (day r : ℕ) (x : Hedge) → r ≤ 999999 → 
 turned-fits true shut day r x h f = (f.0, h)
 turned-fits false shut day r x h f = f
 
-lines_fit : (r : ℕ) (xs : List Hedge) → r ≤ 999999 → All Fit xs → All (λ l. nat_abs l.centavos ≤ 30000000000000) (map (line_of r) xs)
+lines_fit : (r : ℕ) (xs : List Hedge) → r ≤ 999999 → AllByRecursion Fit xs → AllByRecursion (λ l. nat_abs l.centavos ≤ 30000000000000) (map (line_of r) xs)
 lines_fit r xs h f = All-map (λ l. nat_abs l.centavos ≤ 30000000000000) (line_of r) xs (All-weaker Fit (λ x. nat_abs (rounded (worth r x)) ≤ 30000000000000) (λ x g. let q = rounded-fits (worth r x) 2000000000000000 (worth-fits r x h g) in omega arith) xs f)
 
-penalties-fit : (desk : ℕ → Desk) (is : List ℕ) → ((i : ℕ) → (desk i).requirement ≤ 2560000000000000) → All (λ l. nat_abs l.centavos ≤ 30000000000000) (map (penalty desk) is)
+penalties-fit : (desk : ℕ → Desk) (is : List ℕ) → ((i : ℕ) → (desk i).requirement ≤ 2560000000000000) → AllByRecursion (λ l. nat_abs l.centavos ≤ 30000000000000) (map (penalty desk) is)
 penalties-fit desk [] g = tt
 penalties-fit desk (i ∷ is) g = (one ((desk i).requirement - (desk i).collateral) (omega (arith, g i)), penalties-fit desk is g)
   where
@@ -134,7 +134,7 @@ module _ (P : Plan) (T : Sharing) (C : Deciding) (free : ℕ) (h : History) (b :
   -- a call that no .lines line, posts none and terminates nothing
   quiet : (c : Call) (b' : Books) → (entry c).lines ≡ [] → ending (entry c) ≡ None → b'.free ≡ b.free → Postable free (entry c ∷ h) b'
   quiet c b' none e f = record {
-    amounts = subst (λ (ls : List Line). All (λ l. nat_abs l.centavos ≤ 30000000000000) (ls ++ told h)) (sym none) s.post.amounts;
+    amounts = subst (λ (ls : List Line). AllByRecursion (λ l. nat_abs l.centavos ≤ 30000000000000) (ls ++ told h)) (sym none) s.post.amounts;
     count = ap₂ (λ (n : ℕ) (ls : List Line). n + length (ls ++ told h)) f none ∙ s.post.count;
     one = (subst (λ (o : Option ℕ). OneIf o (entry c).lines) (sym e) tt, s.post.one);
   }
@@ -142,10 +142,10 @@ module _ (P : Plan) (T : Sharing) (C : Deciding) (free : ℕ) (h : History) (b :
   sized-desk : (c : Call) (i : ℕ) (d : Desk) → (entry c).lines ≡ [] → ending (entry c) ≡ None → d.requirement ≤ 2560000000000000 → Sized (entry c ∷ h) (with_desk i d b) free
   sized-desk c i d none e g = record { rate = s.rate; priced = s.priced; fit = s.fit; few = s.few; single = s.single; guarantee = λ j. desk_fits (eqb j i) d (b.desk j) g (s.guarantee j); post = quiet c (with_desk i d b) none e refl }
 
-  sized-auction : (c : Call) (o : Option Auction) (n : ℕ) → (entry c).lines ≡ [] → ending (entry c) ≡ None → All (Priced (standing o).terms.kind b.rate) (standing o).bids → Sized (entry c ∷ h) (with_auction o n b) free
+  sized-auction : (c : Call) (o : Option Auction) (n : ℕ) → (entry c).lines ≡ [] → ending (entry c) ≡ None → AllByRecursion (Priced (standing o).terms.kind b.rate) (standing o).bids → Sized (entry c ∷ h) (with_auction o n b) free
   sized-auction c o n none e priced = record { rate = s.rate; priced = priced; fit = s.fit; few = s.few; single = s.single; guarantee = s.guarantee; post = quiet c (with_auction o n b) none e refl }
 
-  sized-publish : (n : ℕ) → All (λ t. t.1 ≡ false) (tests P T C b (publish n)) → Sized (entry (publish n) ∷ h) (after P T C b (publish n)) free
+  sized-publish : (n : ℕ) → AllByRecursion (λ t. t.1 ≡ false) (tests P T C b (publish n)) → Sized (entry (publish n) ∷ h) (after P T C b (publish n)) free
   sized-publish n p = record {
     rate = s.rate;
     priced = tt;
@@ -172,10 +172,10 @@ module _ (P : Plan) (T : Sharing) (C : Deciding) (free : ℕ) (h : History) (b :
       Small : Got → Type 0
       Small x = (x.dollars ≤ named x.of) × (Sound x.of × Priced terms.kind b.rate x.of)
 
-      sound : All Sound bids
-      sound = subst (All Sound) (sym v.bids) (k.sold.taken n).sound
+      sound : AllByRecursion Sound bids
+      sound = subst (AllByRecursion Sound) (sym v.bids) (k.sold.taken n).sound
 
-      small : All Small gots
+      small : AllByRecursion Small gots
       small = all_both (λ x. x.dollars ≤ named x.of) (λ x. Sound x.of × Priced terms.kind b.rate x.of) gots
           (allotted-keeps T terms bids (omega (arith, ap (λ (t : Terms). t.offer) v.terms, k.sold.offered n)) (omega (arith, ap length v.bids, (k.sold.taken n).few)) sound (subst Sorted (sym v.bids) (k.sold.taken n).sorted)).no_more
           (allotted-all T terms (λ x. Sound x × Priced terms.kind b.rate x) bids (all_both Sound (Priced terms.kind b.rate) bids sound s.priced))
@@ -190,7 +190,7 @@ module _ (P : Plan) (T : Sharing) (C : Deciding) (free : ℕ) (h : History) (b :
       go m (inl lt) = let z = ap length (none_here m b.numbered b.hedges lt k.placed.places) in let r = rising_single b.day m (suc b.numbered) (new_deals P T C b) rising in omega (arith, parts m)
       go m (inr le) = let z = ap length (here-fresh_none b.day m (new_deals P T C b) (All-weaker (λ g. (suc b.numbered ≤ g.number) × (g.number < suc b.numbered + length (new_deals P T C b))) (λ g. m < g.number) (λ g q. omega arith) (new_deals P T C b) (rising_bounds (suc b.numbered) (new_deals P T C b) rising))) in omega (arith, parts m, s.single m)
 
-  sized-fix : (d r : ℤ) (room : ℕ) → All (λ t. t.1 ≡ false) (tests P T C b (fix d r room)) → Sized (entry (fix d r room) ∷ h) (after P T C b (fix d r room)) free
+  sized-fix : (d r : ℤ) (room : ℕ) → AllByRecursion (λ t. t.1 ≡ false) (tests P T C b (fix d r room)) → Sized (entry (fix d r room) ∷ h) (after P T C b (fix d r room)) free
   sized-fix d r room p = record {
     rate = rate';
     priced = no-bids (Priced (standing b.auction).terms.kind (nat_abs r)) b.auction p.1.1.1.0;
@@ -225,10 +225,10 @@ module _ (P : Plan) (T : Sharing) (C : Deciding) (free : ℕ) (h : History) (b :
       new : List Line
       new = fix_lines P T C (nat_abs d) (nat_abs r) b
 
-      fit_open : All Fit (open_ones b.hedges)
+      fit_open : AllByRecursion Fit (open_ones b.hedges)
       fit_open = all_kept_by (λ x. x.live) Fit b.hedges s.fit
 
-      fit' : All Fit hs'
+      fit' : AllByRecursion Fit hs'
       fit' = All-map Fit turn (open_ones b.hedges) (All-weaker Fit (λ x. Fit (turn x)) (λ x f. turned-fits (paid x) (closing (nat_abs d) x) (nat_abs d) (nat_abs r) x rate' f) (open_ones b.hedges) fit_open)
 
       few' : length hs' ≤ 128
@@ -249,7 +249,7 @@ module _ (P : Plan) (T : Sharing) (C : Deciding) (free : ℕ) (h : History) (b :
         ltb-false b.free (length (open_ones b.hedges) + admitted_ones b) p.1.1.1.1.1.0,
       )
 
-  sized-terminate : (n : ℤ) → All (λ t. t.1 ≡ false) (tests P T C b (terminate n)) → Sized (entry (terminate n) ∷ h) (after P T C b (terminate n)) free
+  sized-terminate : (n : ℤ) → AllByRecursion (λ t. t.1 ≡ false) (tests P T C b (terminate n)) → Sized (entry (terminate n) ∷ h) (after P T C b (terminate n)) free
   sized-terminate n p = record {
     rate = s.rate;
     priced = s.priced;
@@ -273,7 +273,7 @@ module _ (P : Plan) (T : Sharing) (C : Deciding) (free : ℕ) (h : History) (b :
       one' : length (end_lines (nat_abs n) b) ≡ 1
       one' = let q = eqb-false (length (here (nat_abs n) b.hedges)) 0 (or_parts (lt_z n (pos 0)) (eqb (length (here (nat_abs n) b.hedges)) 0) p.1.0).1 in omega (arith, length-map (here (nat_abs n) b.hedges) (line_of b.rate), s.single (nat_abs n), q)
 
-  sized-after : (c : Call) → All (λ t. t.1 ≡ false) (tests P T C b c) → Sized (entry c ∷ h) (after P T C b c) free
+  sized-after : (c : Call) → AllByRecursion (λ t. t.1 ≡ false) (tests P T C b c) → Sized (entry c ∷ h) (after P T C b c) free
   sized-after (admit i) p = sized-desk (admit i) _ _ refl refl (omega arith)
   sized-after (announce kd o c m) p = sized-auction (announce kd o c m) _ _ refl refl tt
   sized-after (bid n i q m) p = sized-auction (bid n i q m) _ _ refl refl

@@ -2,7 +2,7 @@
 use Rattle.std.proofs.Common.{◌≡◌, ℕ, suc, ◌<◌, ◌≤◌, Bool, true, false, cond, eqb, List, [], ◌∷◌, ◌++◌, length, ℤ, nat_abs, Some, None, Option, sym, refl, ap, ◌∙◌, subst, ap₂, arith}
 use Rattle.std.proofs.lemmas.Bool.{ne_eqb, eq-eqb, eqb-true, both_ways, and_parts}
 use Rattle.std.proofs.ByRecursion.{All-weaker}
-use Rattle.std.specs.List.{flat_map, AllByRecursion as All}
+use Rattle.std.specs.List.{flat_map, AllByRecursion}
 use Rattle.rules.proofs.Allotment.{Sound, Sorted, entered_all, entered-sorted, entered-length}
 use Rattle.rules.specs.declared.call.Call.TheVariants.{Announce as announce, Bid as bid, Publish as publish}
 use Rattle.rules.specs.declared.auction.TicketName.{TicketName}
@@ -21,7 +21,7 @@ same_number s t e = eqb-true s.number t.number (and_parts (eqb s.number t.number
 
 pub record Taken (xs : List Bid) : Type 0 where
   pub few : length xs ≤ 64
-  pub sound : All Sound xs
+  pub sound : AllByRecursion Sound xs
   pub sorted : Sorted xs
 
 pub record Stood (h : History) (day : ℕ) (o : Option Auction) (k n : ℕ) : Type 0 where
@@ -29,14 +29,14 @@ pub record Stood (h : History) (day : ℕ) (o : Option Auction) (k n : ℕ) : Ty
   pub terms : (standing o).terms ≡ terms_of n h
   pub old : n ≤ k
   pub ahead : day < (standing o).terms.maturity
-  pub unspent : All (λ p. ¬ (p.ticket ≡ n)) (publications h)
+  pub unspent : AllByRecursion (λ p. ¬ (p.ticket ≡ n)) (publications h)
 
 -- k auction numbers have been given, and o is the standing auction
 pub record Sold (h : History) (day : ℕ) (o : Option Auction) (k : ℕ) : Type 0 where
   pub offered : (n : ℕ) → (terms_of n h).offer ≤ 2000
   pub taken : (n : ℕ) → Taken (bids_of n h)
   pub later : (n : ℕ) → k < n → bids_of n h ≡ []
-  pub spent : All (λ p. p.ticket ≤ k) (publications h)
+  pub spent : AllByRecursion (λ p. p.ticket ≤ k) (publications h)
   pub stood : (t : TicketName) → holds o t ≡ true → Stood h day o k t.number
 
 -- a call that announces, publishes and takes nothing, and leaves the auction o' standing
@@ -46,8 +46,8 @@ sold_as e h day day' o o' k ts bs ps stood s = record {
   offered = λ n. subst (λ (t : Terms). t.offer ≤ 2000) (sym (ts n)) (s.offered n);
   taken = λ n. subst Taken (sym (bs n)) (s.taken n);
   later = λ n l. bs n ∙ s.later n l;
-  spent = subst (All (λ p. p.ticket ≤ k)) (sym ps) s.spent;
-  stood = λ t q. let v = stood t q in record { bids = v.bids ∙ sym (bs t.number); terms = v.terms ∙ sym (ts t.number); old = v.old; ahead = v.ahead; unspent = subst (All (λ p. ¬ (p.ticket ≡ t.number))) (sym ps) v.unspent };
+  spent = subst (AllByRecursion (λ p. p.ticket ≤ k)) (sym ps) s.spent;
+  stood = λ t q. let v = stood t q in record { bids = v.bids ∙ sym (bs t.number); terms = v.terms ∙ sym (ts t.number); old = v.old; ahead = v.ahead; unspent = subst (AllByRecursion (λ p. ¬ (p.ticket ≡ t.number))) (sym ps) v.unspent };
 }
 
 pub none_stands : (h : History) (day : ℕ) (o : Option Auction) (k : ℕ) → stands o ≡ false → (t : TicketName) → holds o t ≡ true → Stood h day o k t.number
@@ -58,7 +58,7 @@ pub sealed-stands : (h : History) (day : ℕ) (o : Option Auction) (k n : ℕ) �
     → Stood h day (Some (record { ticket = sealed n; terms = (standing o).terms; bids = (standing o).bids })) k t.number
 sealed-stands h day o k n v t q =
     let e = same_number (sealed n) t q in
-    record { bids = v.bids ∙ ap (λ i. bids_of i h) e; terms = v.terms ∙ ap (λ i. terms_of i h) e; old = omega (arith, v.old); ahead = v.ahead; unspent = subst (λ (j : ℕ). All (λ p. ¬ (p.ticket ≡ j)) (publications h)) e v.unspent }
+    record { bids = v.bids ∙ ap (λ i. bids_of i h) e; terms = v.terms ∙ ap (λ i. terms_of i h) e; old = omega (arith, v.old); ahead = v.ahead; unspent = subst (λ (j : ℕ). AllByRecursion (λ p. ¬ (p.ticket ≡ j)) (publications h)) e v.unspent }
 
 pub sold_announce : (h : History) (day : ℕ) (o : Option Auction) (k : ℕ) (kind offer cap maturity : ℤ) → nat_abs offer ≤ 2000 → day < nat_abs maturity → Sold h day o k
     → Sold (record { call = announce kind offer cap maturity; answer = Ticket (suc k); lines = [] } ∷ h) day (Some (record { ticket = bidding (suc k); terms = terms_given kind offer cap maturity; bids = [] })) (suc k)
@@ -95,7 +95,7 @@ sold_bid h day o k n i p m held room sound s = record {
     terms = v.terms ∙ ap (λ j. terms_of j h) e;
     old = omega (arith, v.old);
     ahead = v.ahead;
-    unspent = subst (λ (j : ℕ). All (λ p. ¬ (p.ticket ≡ j)) (publications h)) e v.unspent;
+    unspent = subst (λ (j : ℕ). AllByRecursion (λ p. ¬ (p.ticket ≡ j)) (publications h)) e v.unspent;
   };
 }
   where
@@ -117,11 +117,11 @@ pub sold_publish : (n first count : ℕ) (h : History) (day : ℕ) (o : Option A
 sold_publish n first count h day o k old s = record { offered = s.offered; taken = s.taken; later = s.later; spent = (old, s.spent); stood = none_stands (record { call = publish n; answer = Published first count; lines = [] } ∷ h) day None k refl }
 
 -- ---- what was published stays as it was published
-joined_alike : {X Y : Type 0} (f g : X → List Y) (xs : List X) → All (λ x. f x ≡ g x) xs → flat_map f xs ≡ flat_map g xs
+joined_alike : {X Y : Type 0} (f g : X → List Y) (xs : List X) → AllByRecursion (λ x. f x ≡ g x) xs → flat_map f xs ≡ flat_map g xs
 joined_alike f g [] h = refl
 joined_alike f g (x ∷ xs) h = ap₂ (λ a b. a ++ b) h.0 (joined_alike f g xs h.1)
 
-dealt-as : (T : Sharing) (e : Entry) (h : History) → publications (e ∷ h) ≡ publications h → All (λ p. (terms_of p.ticket (e ∷ h) ≡ terms_of p.ticket h) × (bids_of p.ticket (e ∷ h) ≡ bids_of p.ticket h)) (publications h)
+dealt-as : (T : Sharing) (e : Entry) (h : History) → publications (e ∷ h) ≡ publications h → AllByRecursion (λ p. (terms_of p.ticket (e ∷ h) ≡ terms_of p.ticket h) × (bids_of p.ticket (e ∷ h) ≡ bids_of p.ticket h)) (publications h)
     → dealt T (e ∷ h) ≡ dealt T h
 dealt-as T e h ps q = ap (flat_map (from (e ∷ h))) ps ∙ joined_alike (from (e ∷ h)) (from h) (publications h)
     (All-weaker (λ p. (terms_of p.ticket (e ∷ h) ≡ terms_of p.ticket h) × (bids_of p.ticket (e ∷ h) ≡ bids_of p.ticket h)) (λ p. from (e ∷ h) p ≡ from h p)

@@ -1,6 +1,6 @@
 -- The law of the house, in words that go by a run's calls and answers. A history has its latest call first. Assumes nothing.
 use Rattle.std.specs.Prelude.{◌≡◌, ℕ, zero, suc, ◌+◌, ◌-◌, ◌*◌, ◌<◌, ◌≤◌, min, Bool, false, cond, not, ◌&&◌, List, [], ◌∷◌, ◌++◌, map, length, ℤ, pos, ◌+ℤ◌, ◌-ℤ◌, ◌*ℤ◌, neg_ℤ, ◌<ℤ◌, is_some, Some, None, filter, Option, ◌==◌, ◌≢◌, nat_eq, unsigned_abs}
-use Rattle.std.specs.List.{flat_map, AllByRecursion as All}
+use Rattle.std.specs.List.{flat_map, AllByRecursion}
 use Rattle.terms.specs.declared.plan.Plan.{Plan}
 use Rattle.tie_rules.specs.Sharing.{Sharing}
 use Rattle.conventions.specs.Deciding.{Deciding}
@@ -193,14 +193,14 @@ pub record Paid (h : History) (g : Deal) : Type 0 where
   pub close : near (50 * length (lines_of g.number (told h))) (pos 100 *ℤ sum_of (lines_of g.number (told h))) (pos g.dollars *ℤ (pos (last_settled g h) -ℤ pos g.assigned))
   pub at_closing : (r : ℕ) → closed_at g h ≡ Some r → last_settled g h ≡ r
   pub none_late : late g h ≡ []
-  pub whose : All (λ l. l.institution ≡ g.institution) (lines_of g.number (told h))
+  pub whose : AllByRecursion (λ l. l.institution ≡ g.institution) (lines_of g.number (told h))
 
 -- an auction allotted the smaller of its offer and the sum of its bids, to its own bids; none got more than it named, and where one got less, no lower price got a dollar
 pub record Allotted (offer : ℕ) (xs : List Bid) (gs : List Got) : Type 0 where
   pub whose : map (λ x. x.of) gs ≡ xs
   pub whole : total (map (λ x. x.dollars) gs) ≡ min (1000000 * offer) (total (map named xs))
-  pub no_more : All (λ x. x.dollars ≤ named x.of) gs
-  pub no_lower : All (λ x. All (λ y. x.dollars < named x.of → y.of.price <ℤ x.of.price → y.dollars ≡ 0) gs) gs
+  pub no_more : AllByRecursion (λ x. x.dollars ≤ named x.of) gs
+  pub no_lower : AllByRecursion (λ x. AllByRecursion (λ y. x.dollars < named x.of → y.of.price <ℤ x.of.price → y.dollars ≡ 0) gs) gs
 
 -- its place became free: it had closed before the last accepted fix
 abbrev pub freed : Deal → History → Bool
@@ -221,10 +221,10 @@ Recorded h b g =
 -- what the books show after a history
 pub record BooksShow (T : Sharing) (h : History) (b : Books) : Type 0 where
   pub balances : Balanced h b
-  pub hedges : All (Paid h) (dealt T h)
-  pub records : All (Recorded h b) (dealt T h)
-  pub strangers : (n : ℕ) → All (λ g. g.number ≢ n) (dealt T h) → ask n b.hedges ≡ None
-  pub auctions : All (λ p. Allotted (terms_of p.ticket h).offer (bids_of p.ticket h) (got_of T p.ticket h)) (publications h)
+  pub hedges : AllByRecursion (Paid h) (dealt T h)
+  pub records : AllByRecursion (Recorded h b) (dealt T h)
+  pub strangers : (n : ℕ) → AllByRecursion (λ g. g.number ≢ n) (dealt T h) → ask n b.hedges ≡ None
+  pub auctions : AllByRecursion (λ p. Allotted (terms_of p.ticket h).offer (bids_of p.ticket h) (got_of T p.ticket h)) (publications h)
 
 -- ---- further claims
 -- the current day: that of the last accepted fix, or the plan's start
@@ -252,7 +252,7 @@ rolled_since T (e ∷ h) = elim (fixing e) [ Some f ↦ 0 | None ↦ elim (publi
 
 -- no hedge is open past its maturity day; maturity auctions never allot more than matured; no institution's accepted bids pass the cap
 pub record Orderly (P : Plan) (T : Sharing) (h : History) : Type 0 where
-  pub none_past : All (λ g. closed_at g h ≡ None → day_now P h ≤ g.maturity) (dealt T h)
+  pub none_past : AllByRecursion (λ g. closed_at g h ≡ None → day_now P h ≤ g.maturity) (dealt T h)
   pub covered : rolled_since T h ≤ matured_at T h
   pub capped : (n i : ℕ) → millions_of i (bids_of n h) ≤ (terms_of n h).cap
 
@@ -268,9 +268,9 @@ OneIf (Some k) ls = length ls ≡ 1
 
 -- every line is one that accounts post, each took one of the free postings, and a termination told just one
 pub record Postable (free : ℕ) (h : History) (b : Books) : Type 0 where
-  pub amounts : All (λ l. unsigned_abs l.centavos ≤ 30000000000000) (told h)
+  pub amounts : AllByRecursion (λ l. unsigned_abs l.centavos ≤ 30000000000000) (told h)
   pub count : b.free + length (told h) ≡ free
-  pub one : All (λ e. OneIf (ending e) e.lines) h
+  pub one : AllByRecursion (λ e. OneIf (ending e) e.lines) h
 
 -- ---- runs
 pub record Run : Type 0 where
@@ -297,7 +297,7 @@ OrderKept = (P : Plan) (T : Sharing) (C : Deciding) (free : ℕ) (calls : List C
 
 -- of every call made after every list of calls
 abbrev pub PenaltiesOnePercent : Type 0
-PenaltiesOnePercent = (P : Plan) (T : Sharing) (C : Deciding) (free : ℕ) (calls : List Call) (c : Call) → All (Penal (run P T C free calls).books) (step P T C (run P T C free calls).books c).0.lines
+PenaltiesOnePercent = (P : Plan) (T : Sharing) (C : Deciding) (free : ℕ) (calls : List Call) (c : Call) → AllByRecursion (Penal (run P T C free calls).books) (step P T C (run P T C free calls).books c).0.lines
 
 -- in every run the lines fit the postings
 abbrev pub PostingsFit : Type 0

@@ -1,7 +1,7 @@
 -- Publishing the deals of the standing auction.
 use Rattle.std.proofs.Common.{◌≡◌, ℕ, suc, ◌+◌, ◌-◌, ◌≤◌, Bool, true, false, cond, not, ◌&&◌, eqb, ltb, leb, List, [], ◌∷◌, ◌++◌, map, length, take, ℤ, pos, Some, None, Ok, Err, Option, Result, sym, refl, ap, ◌∙◌, arith}
 use lib.Signed.{le_z}
-use Rattle.std.specs.List.{list_all, AllZip, AllByRecursion as All}
+use Rattle.std.specs.List.{list_all, AllZip, AllByRecursion}
 use Rattle.std.proofs.lemmas.List.{length-take-le}
 use Rattle.std.proofs.lemmas.Int.{ints}
 use Rattle.std.proofs.lemmas.Bool.{eqb-true, eq-eqb, leb-true, le-ltb, and_parts, and_from}
@@ -108,7 +108,7 @@ sound_in_range kind rate (x ∷ xs) e =
     let most = s.most in
     and_from (in_range x) (list_all in_range xs) (and_from (le_z (pos 1) (pos x.millions)) (le_z (pos x.millions) (pos 2000)) (grind (arith, ints)) (grind (arith, ints))) (sound_in_range kind rate xs p.1)
 
-small : (ds : List ℕ) (xs : List Bid) → AllZip ◌≤◌ ds (map named xs) → All Ranged xs → All (λ d. d ≤ 2000000000) ds
+small : (ds : List ℕ) (xs : List Bid) → AllZip ◌≤◌ ds (map named xs) → AllByRecursion Ranged xs → AllByRecursion (λ d. d ≤ 2000000000) ds
 small [] xs h r = tt
 small (d ∷ ds) [] h r = absurd h
 small (d ∷ ds) (x ∷ xs) h r = (omega (arith, h.0, r.0.1), small ds xs h.1 r.1)
@@ -117,7 +117,7 @@ small (d ∷ ds) (x ∷ xs) h r = (omega (arith, h.0, r.0.1), small ds xs h.1 r.
 pub record Allottable (T : Sharing) (t : Terms) (xs : List Bid) : Type 0 where
   pub passed : allot_refused t.offer xs (length xs) ≡ None
   pub pairs : allotted T t xs ≡ paired xs (dollars_of T t.offer xs)
-  pub most : All (λ d. d ≤ 2000000000) (dollars_of T t.offer xs)
+  pub most : AllByRecursion (λ d. d ≤ 2000000000) (dollars_of T t.offer xs)
 
 pub allottable : (T : Sharing) (rate : ℕ) (a : Standing) (xs : List Bid) → length xs ≤ 64 → is_sound_auction rate (Some a) xs ≡ true → Allottable T a.terms xs
 allottable T rate a xs few sound =

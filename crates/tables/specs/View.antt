@@ -13,7 +13,7 @@ use Rattle.rules.specs.Rules.{Told, quietly, tests, step}
 use Rattle.rules.specs.declared.auction.TicketName.{TicketName}
 use Rattle.rules.specs.declared.auction.Bid.{Bid}
 use Rattle.rules.specs.Books.{Auction, Books, posted}
-use Rattle.std.specs.List.{AllByRecursion as All}
+use Rattle.std.specs.List.{AllByRecursion}
 use Rattle.portfolio.specs.Fitting.{Payable}
 use Rattle.tables.specs.declared.publication.Publication.{Publication}
 use Rattle.portfolio.specs.View.{placed_of}
@@ -60,7 +60,7 @@ pub record Publishes (T : Sharing) (k : Book) (n : ℕ) (t : Told) (k' : Book) :
 pub record Tells (C : Deciding) (free : ℕ) (k : Book) (c : Call) (t : Told) (k' : Book) : Type 0 where
   pub steps : (T : Sharing) (balance : ℕ → ℤ) → step k.plan T C (books_of balance free k) c ≡ (t, books_of (posted t.lines balance) (free - length t.lines) k')
   pub plan : k'.plan ≡ k.plan
-  pub payable : All Payable t.lines
+  pub payable : AllByRecursion Payable t.lines
   pub enough : length t.lines ≤ free
 
 -- why a call on the tables is refused, likewise

@@ -1,6 +1,6 @@
 // Hedges for the bids that got dollars.
 ghost use Rattle.std.specs.Prelude.{◌≡◌, suc, ◌+◌, ◌<◌, ◌≤◌, true, [], ◌∷◌, ◌++◌, map, length, unsigned_abs};
-ghost use Rattle.std.specs.List.{list_all, AllByRecursion as All};
+ghost use Rattle.std.specs.List.{list_all, AllByRecursion};
 ghost use Rattle.terms.specs.Ranges.{is_rate};
 ghost use Rattle.rules.specs.Allotment.{assigned_rate, deal_of};
 ghost use Rattle.rules.specs.Books.{total};
@@ -89,7 +89,7 @@ pub(crate) fn issue_all(
     requires rate { rate ≤ 999999 }
     requires sizes { length bids.now ≡ length dollars.now }
     requires sound { list_all (is_sound_bid terms.kind rate) bids.now ≡ true }
-    requires dollars { All (λ d. d ≤ 2000000000) dollars.now }
+    requires dollars { AllByRecursion (λ d. d ≤ 2000000000) dollars.now }
     requires room { (length (placed_of portfolio.old) + given dollars.now ≤ 128) × (portfolio.old.numbered + given dollars.now ≤ 100000) }
     ensures hedges { placed_of portfolio.new ≡ placed_of portfolio.old ++ map (fresh day) (deals_of portfolio.old.numbered rate terms bids.now dollars.now) }
     ensures numbered { portfolio.new.numbered ≡ portfolio.old.numbered + given dollars.now }

@@ -1,5 +1,5 @@
 ghost use Rattle.std.specs.Prelude.{◌≡◌, ◌+◌, ◌≤◌, length, take, IfNone, Some, None};
-ghost use Rattle.std.specs.List.{AllByRecursion as All};
+ghost use Rattle.std.specs.List.{AllByRecursion};
 ghost use Rattle.terms.specs.Refusals.{first};
 ghost use Rattle.allotment.specs.Allotting.{allot_refused, dollars_of};
 ghost use Rattle.portfolio.specs.View.{placed_of};
@@ -81,7 +81,7 @@ impl Book {
     ) -> Result<Publication, Refusal>
         requires stood { self.old.auction ≡ Some standing }
         requires sizes { length dollars.now ≡ self.old.taken }
-        requires dollars { All (λ d. d ≤ 2000000000) dollars.now }
+        requires dollars { AllByRecursion (λ d. d ≤ 2000000000) dollars.now }
         ensures { Issues self.old (deals_for self.old standing dollars.now) standing.terms.kind result self.new }
     {
         let count = count_given(dollars);

@@ -1,7 +1,7 @@
 -- One turn of each loop. Assumes nothing.
 use Rattle.std.proofs.Common.{◌≡◌, ℕ, zero, suc, ◌+◌, ◌-◌, ◌*◌, ◌/◌, ◌<◌, ◌≤◌, min, true, ◌&&◌, leb, List, [], ◌∷◌, ◌++◌, map, length, get_or, take, drop, set, sum, sym, refl, ap, ◌∙◌, mul-le-mul_right, arith}
 use native.Mathlib.Nat.{div-le_of_le-mul}
-use Rattle.std.specs.List.{AllByRecursion as All, list_all}
+use Rattle.std.specs.List.{AllByRecursion, list_all}
 use Rattle.std.proofs.lemmas.List.{at_drop_more, at_drop_all, take_all, take_more_set, append_assoc, append-nil, drop_all, map_more}
 use Rattle.std.proofs.lemmas.Bool.{and_parts, leb-true}
 use Rattle.std.proofs.lemmas.List.Sums.{sum-map, sum_by_more, sum_by-take-le}
@@ -74,7 +74,7 @@ one_more_each-all shares i ls =
     rw (t, d, n)
 
 -- the parts of a tie are below 2,000,000,000 dollars, so that one more still fits
-pub parts-small : (left total : ℕ) (amounts : List ℕ) → left < total → list_all is_dollars amounts ≡ true → All (λ s. s < 2000000000) (parts left total amounts)
+pub parts-small : (left total : ℕ) (amounts : List ℕ) → left < total → list_all is_dollars amounts ≡ true → AllByRecursion (λ s. s < 2000000000) (parts left total amounts)
 parts-small left total [] less each = tt
 parts-small left total (a ∷ amounts) less each =
     let b = and_parts (is_dollars a) (list_all is_dollars amounts) each in

@@ -1,5 +1,5 @@
 ghost use Rattle.std.specs.Prelude.{◌≡◌, ◌-◌, ◌*◌, ◌/◌, ◌<◌, ◌≤◌, length, sum};
-ghost use Rattle.std.specs.List.{AllByRecursion as All};
+ghost use Rattle.std.specs.List.{AllByRecursion};
 ghost use Rattle.tie_rules.specs.Meanings.{pro_rata};
 ghost use Rattle.tie_rules.specs.Rules.{one_more_each, parts};
 
@@ -48,7 +48,7 @@ fn part(left: u32, amount: u32, total: u64) -> u32
 
 fn add_one_each(count: usize, shares: &mut [u32])
     requires count { count ≤ length shares.old }
-    requires small { All (λ s. s < 2000000000) shares.old }
+    requires small { AllByRecursion (λ s. s < 2000000000) shares.old }
     ensures { shares.new ≡ one_more_each count shares.old }
 {
     for share in shares[..count].iter_mut() {

@@ -1,5 +1,5 @@
 use Rattle.std.proofs.Common.{◌≡◌, ℕ, ◌-◌, ◌≤◌, true, List, length, take, Some, None, Option, sym, ap, ◌∙◌, subst, arith, length-take}
-use Rattle.std.specs.List.{AllByRecursion as All}
+use Rattle.std.specs.List.{AllByRecursion}
 use Rattle.tie_rules.specs.Sharing.{Sharing}
 use Rattle.rules.specs.Allotment.{paired}
 use Rattle.allotment.specs.Allotting.{allot_refused, dollars_of}
@@ -33,7 +33,7 @@ issue_allotted-requires g c =
     let out = c.write_dollars.new.dollars in
     let is = front k.taken k.bids out (dollars_of T a.terms.offer) k.sized.0 k.few.0 c.write_dollars.ensures in
     let n = length-take (k.taken - 0) out in
-    record { stood = c.in-Some.is; sizes = omega (arith, k.few.0, c.write_dollars.auto.dollars); dollars = subst (λ (ds : List ℕ). All (λ d. d ≤ 2000000000) ds) (sym is) able.most }
+    record { stood = c.in-Some.is; sizes = omega (arith, k.few.0, c.write_dollars.auto.dollars); dollars = subst (λ (ds : List ℕ). AllByRecursion (λ d. d ≤ 2000000000) ds) (sym is) able.most }
 
 pub returns : goal.returns
 returns g c =
