@@ -1,5 +1,5 @@
 -- A run that has come to its i-th request.
-use Rattle.std.proofs.Common.{◌≡◌, ℕ, zero, suc, ◌+◌, ◌<◌, ◌≤◌, List, [], ◌∷◌, ◌++◌, map, reverse, length, get_or, take, drop, ℤ, pos, vec_items, sym, refl, ap, ◌∙◌, subst, append_assoc, arith}
+use Rattle.std.proofs.Common.{◌≡◌, ℕ, ◌+◌, ◌<◌, ◌≤◌, List, [], ◌∷◌, ◌++◌, map, reverse, length, get_or, take, drop, ℤ, vec_items, sym, refl, ap, ◌∙◌, subst, append_assoc}
 use Rattle.std.specs.List.{flat_map}
 use Rattle.std.proofs.lemmas.List.{at_drop_more, at_drop_all, map-append, reverse-append, flat_map_more, append-nil}
 use Rattle.terms.specs.declared.plan.Plan.{Plan}
@@ -10,14 +10,14 @@ use Rattle.rules.specs.declared.call.Answer.{Answer}
 use Rattle.rules.specs.declared.hedge.Line.{Line}
 use Rattle.rules.specs.Books.{Books}
 use Rattle.rules.specs.Rules.{Told, step}
-use Rattle.rules.specs.Law.{History, Entry, Run, run, BooksShow, Orderly, Postable}
+use Rattle.rules.specs.Law.{History, Entry, Run, run}
 use Rattle.rules.proofs.Orders.{order_kept}
 use Rattle.rules.proofs.Questions.{law}
 use Rattle.rules.proofs.Sizes.{postings_fit}
 use Rattle.house.specs.Calls.{house_books}
 use Rattle.house.specs.declared.house.House.{House}
-use Rattle.room.specs.Rooms.{Lawful, room_books, run_of, Live, Led, After, Turns}
-use Rattle.room.specs.Runs.{meant, New, closed, spoken, Run-shows}
+use Rattle.room.specs.Rooms.{Lawful, room_books, run_of, Led}
+use Rattle.room.specs.Runs.{meant, New, closed, spoken, RunShows}
 use Rattle.room.specs.Opening.{Opens, Closes}
 use Rattle.room.specs.Takes.{Takes}
 use Rattle.room.specs.declared.log.Log.{Log}
@@ -113,7 +113,7 @@ module _ {A T C : Type 0} (balances : A → List ℤ) (free : A → ℕ) (shares
     }
 
   pub going_ended : (i : ℕ) (calls : List Call) (answers : List Answer) (lines : List Line) (d : Room A T C) (h : House A T C) → Going i calls answers lines d → length requests ≤ i → Closes balances free shares decides d h → fresh
-      → Run-shows P R V n requests calls answers lines (house_books balances free h)
+      → RunShows P R V n requests calls answers lines (house_books balances free h)
   going_ended i calls answers lines d h s past_end x f = record {
     said = sym (append-nil calls) ∙ ap (λ (rs : List Request). calls ++ spoken P R V n (reverse calls) rs) (sym (at_drop_all (λ rs. rs) requests i past_end)) ∙ s.said f;
     answered = s.answered f;
@@ -160,10 +160,10 @@ module _ {A T C : Type 0} (balances : A → List ℤ) (free : A → ℕ) (shares
 
   -- and by what it was made of
   pub shows_made : (P : Plan) (accounts : A) (rule : T) (convention : C) (d : Room A T C) (requests : List Request) (calls : List Call) (answers : List Answer) (lines : List Line) (b : Books) → Opens balances free shares decides P accounts rule convention d
-      → (New (balances d.house.accounts) → Run-shows d.house.book.plan (shares d.house.tie_rule) (decides d.house.convention) (free d.house.accounts) requests calls answers lines b)
-      → New (balances accounts) → Run-shows P (shares rule) (decides convention) (free accounts) requests calls answers lines b
+      → (New (balances d.house.accounts) → RunShows d.house.book.plan (shares d.house.tie_rule) (decides d.house.convention) (free d.house.accounts) requests calls answers lines b)
+      → New (balances accounts) → RunShows P (shares rule) (decides convention) (free accounts) requests calls answers lines b
   shows_made P accounts rule convention d requests calls answers lines b o f =
-      subst (λ (x : C). New (balances accounts) → Run-shows P (shares rule) (decides x) (free accounts) requests calls answers lines b) o.convention_is
-      (subst (λ (x : T). New (balances accounts) → Run-shows P (shares x) (decides d.house.convention) (free accounts) requests calls answers lines b) o.rule_is
-      (subst (λ (x : A). New (balances x) → Run-shows P (shares d.house.tie_rule) (decides d.house.convention) (free x) requests calls answers lines b) o.held
-      (subst (λ (x : Plan). New (balances d.house.accounts) → Run-shows x (shares d.house.tie_rule) (decides d.house.convention) (free d.house.accounts) requests calls answers lines b) o.plan f)))
+      subst (λ (x : C). New (balances accounts) → RunShows P (shares rule) (decides x) (free accounts) requests calls answers lines b) o.convention_is
+      (subst (λ (x : T). New (balances accounts) → RunShows P (shares x) (decides d.house.convention) (free accounts) requests calls answers lines b) o.rule_is
+      (subst (λ (x : A). New (balances x) → RunShows P (shares d.house.tie_rule) (decides d.house.convention) (free x) requests calls answers lines b) o.held
+      (subst (λ (x : Plan). New (balances d.house.accounts) → RunShows x (shares d.house.tie_rule) (decides d.house.convention) (free d.house.accounts) requests calls answers lines b) o.plan f)))

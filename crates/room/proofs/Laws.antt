@@ -1,5 +1,5 @@
 -- The law after one call.
-use Rattle.std.proofs.Common.{◌≡◌, ℕ, List, [], ◌∷◌, ℤ, sym, refl, ap, ◌∙◌, subst}
+use Rattle.std.proofs.Common.{◌≡◌, ℕ, List, ◌∷◌, ℤ, sym, ap, ◌∙◌, subst}
 use Rattle.std.specs.List.{AllByRecursion}
 use Rattle.terms.specs.declared.plan.Plan.{Plan}
 use Rattle.tie_rules.specs.Sharing.{Sharing}
@@ -9,16 +9,16 @@ use Rattle.rules.specs.declared.call.Answer.{Answer}
 use Rattle.rules.specs.declared.hedge.Line.{Line}
 use Rattle.rules.specs.Books.{Books}
 use Rattle.rules.specs.Rules.{Told, quietly, step}
-use Rattle.rules.specs.Law.{History, Entry, Run, run, BooksShow, Orderly, Postable, Penal}
+use Rattle.rules.specs.Law.{History, Run, run, Penal}
 use Rattle.rules.proofs.Orders.{order_kept}
 use Rattle.rules.proofs.Penalties.{penalties-one_percent}
 use Rattle.rules.proofs.Questions.{law}
 use Rattle.rules.proofs.Sizes.{postings_fit}
 use Rattle.tables.specs.View.{books_of}
 use Rattle.house.specs.Posting.{by_party}
-use Rattle.house.specs.Calls.{house_books, Quiet, Allots, Makes}
+use Rattle.house.specs.Calls.{Quiet, Makes}
 use Rattle.house.specs.declared.house.House.{House}
-use Rattle.room.specs.Rooms.{Lawful, room_books, run_of, Live, Led, After, Turns}
+use Rattle.room.specs.Rooms.{Lawful, room_books, run_of, Live, Turns}
 use Rattle.room.specs.declared.room.Room.{Room}
 
 -- over plain books: a step from the books of a run is the next call of the run

@@ -1,5 +1,5 @@
 -- A room just opened, and a room closed.
-use Rattle.std.proofs.Common.{◌≡◌, ℕ, zero, suc, Bool, true, false, cond, not, ◌&&◌, eqb, List, [], ◌∷◌, get_or, ℤ, pos, Some, None, Option, sym, refl, ap, ◌∙◌, subst, arith}
+use Rattle.std.proofs.Common.{◌≡◌, ℕ, zero, suc, Bool, true, cond, not, ◌&&◌, List, [], ◌∷◌, get_or, ℤ, pos, Some, None, Option, sym, refl, ap, ◌∙◌, arith}
 use mathlib.Core.Path.{fun_ext}
 use Rattle.std.proofs.lemmas.Bool.{eq-eqb}
 use Rattle.terms.specs.declared.plan.Plan.{Plan}
@@ -15,10 +15,10 @@ use Rattle.rules.specs.Books.{Auction, Books, bidding, sealed, same_stage, same_
 use Rattle.rules.specs.Rules.{Told, quietly, judged, answers, after, step}
 use Rattle.tables.specs.View.{books_of}
 use Rattle.house.specs.Posting.{by_party}
-use Rattle.house.specs.Calls.{house_books, Quiet, Made, Makes}
+use Rattle.house.specs.Calls.{house_books, Quiet, Made}
 use Rattle.house.specs.declared.house.House.{House}
 use Rattle.room.specs.Hands.{hand_ticket, is_held, ticket_of}
-use Rattle.room.specs.Rooms.{Voided, room_books, Live, Led}
+use Rattle.room.specs.Rooms.{Voided}
 use Rattle.room.specs.Runs.{New, closed}
 use Rattle.room.specs.Opening.{Opens, Closes}
 use Rattle.room.specs.declared.in_hand.InHand.{InHand}

@@ -1,5 +1,5 @@
 -- One request made and logged.
-use Rattle.std.proofs.Common.{◌≡◌, ℕ, ◌-◌, min, List, [], ◌∷◌, ◌++◌, length, take, ℤ, IfOk, Ok, Err, vec_items, Result, sym, refl, ap, ◌∙◌, subst}
+use Rattle.std.proofs.Common.{◌≡◌, ℕ, ◌-◌, min, List, [], ◌∷◌, ◌++◌, length, take, ℤ, IfOk, Ok, Err, vec_items, Result, ap, ◌∙◌, subst}
 use Rattle.house.proofs.Postings.{take-capped}
 use Rattle.tie_rules.specs.Sharing.{Sharing}
 use Rattle.conventions.specs.Deciding.{Deciding}

@@ -1,5 +1,5 @@
 -- The ticket in hand, over each call.
-use Rattle.std.proofs.Common.{◌≡◌, ℕ, suc, ◌+◌, Bool, true, false, cond, not, ◌&&◌, ◌||◌, eqb, ltb, List, [], ◌∷◌, ◌++◌, length, take, drop, set, ℤ, pos, nat_abs, Some, None, Option, sym, refl, ap, ◌∙◌, subst, arith}
+use Rattle.std.proofs.Common.{◌≡◌, ℕ, suc, ◌+◌, Bool, true, false, cond, not, ◌&&◌, ◌||◌, eqb, ltb, List, [], ◌∷◌, ◌++◌, length, take, drop, set, ℤ, pos, Some, None, Option, sym, refl, ap, ◌∙◌, subst, arith}
 use lib.Signed.{le_z}
 use Rattle.std.proofs.lemmas.Bool.{both_ways, and_parts, eqb-true, ne_eqb, eq-eqb}
 use Rattle.terms.specs.declared.plan.Plan.{Plan}
@@ -24,7 +24,7 @@ use Rattle.rules.proofs.Runs.{passed}
 use Rattle.tables.specs.View.{books_of}
 use Rattle.tables.proofs.Steps.{refusing}
 use Rattle.house.specs.Posting.{by_party}
-use Rattle.house.specs.Calls.{house_books, Quiet, Allots, Makes}
+use Rattle.house.specs.Calls.{house_books, Allots, Makes}
 use Rattle.house.specs.declared.house.House.{House}
 use Rattle.house.specs.declared.tickets.BiddingTicket.{BiddingTicket}
 use Rattle.house.specs.declared.tickets.SealedTicket.{SealedTicket}
@@ -33,7 +33,7 @@ use Rattle.room.specs.Rooms.{room_books, Live, Turns}
 use Rattle.room.specs.declared.in_hand.InHand.{InHand}
 use Rattle.room.specs.declared.in_hand.InHand.TheVariants as hand
 use Rattle.room.specs.declared.room.Room.{Room}
-use Rattle.room.proofs.Laws.{turns, quiet_makes}
+use Rattle.room.proofs.Laws.{turns}
 
 -- ---- tickets
 same-stage : (s t : Stage) → same_stage s t ≡ true → s ≡ t

@@ -11,7 +11,7 @@ use Rattle.rules.specs.declared.call.Answer.TheVariants as a
 use Rattle.rules.specs.declared.hedge.Line.{Line}
 use Rattle.rules.specs.Books.{Books, bidding, sealed}
 use Rattle.rules.specs.Rules.{Told}
-use Rattle.rules.specs.Law.{History, Entry, Run, run, BooksShow, Orderly, Postable, Penal}
+use Rattle.rules.specs.Law.{History, Run, run, BooksShow, Orderly, Postable, Penal}
 use Rattle.house.specs.Calls.{house_books, Quiet, Makes}
 use Rattle.house.specs.declared.house.House.{House}
 use Rattle.room.specs.Hands.{hand_ticket, ticket_of}

@@ -1,5 +1,5 @@
 -- Whole lists of requests on a house just made, and the law after each. Assumes nothing.
-use Rattle.std.specs.Prelude.{◌≡◌, ℕ, ◌<◌, ◌≤◌, List, [], ◌∷◌, ◌++◌, map, reverse, length, take, ℤ, pos, None}
+use Rattle.std.specs.Prelude.{◌≡◌, ℕ, ◌≤◌, List, [], ◌∷◌, map, reverse, length, take, ℤ, pos, None}
 use Rattle.std.specs.List.{flat_map, AllByRecursion}
 use Rattle.terms.specs.declared.plan.Plan.{Plan}
 use Rattle.tie_rules.specs.Sharing.{Sharing}
@@ -9,7 +9,7 @@ use Rattle.rules.specs.declared.call.Call.TheVariants as c
 use Rattle.rules.specs.declared.call.Answer.{Answer}
 use Rattle.rules.specs.declared.hedge.Line.{Line}
 use Rattle.rules.specs.Books.{Books, with_auction}
-use Rattle.rules.specs.Law.{History, Entry, run, Penal}
+use Rattle.rules.specs.Law.{run}
 use Rattle.room.specs.Hands.{last_ticket}
 use Rattle.room.specs.Rooms.{Lawful}
 use Rattle.room.specs.declared.request.Request.{Request}
@@ -38,7 +38,7 @@ module _ (P : Plan) (T : Sharing) (C : Deciding) (n : ℕ) where
   spoken past (r ∷ rs) = meant (run P T C n past).books r ∷ spoken (meant (run P T C n past).books r ∷ past) rs
 
   -- what a run shows: its calls are those that the requests mean; its answers, its lines and its books are those of the rules, a standing auction being voided at the end; and after every call the law stands whole
-  pub record Run-shows (requests : List Request) (calls : List Call) (answers : List Answer) (lines : List Line) (b : Books) : Type 0 where
+  pub record RunShows (requests : List Request) (calls : List Call) (answers : List Answer) (lines : List Line) (b : Books) : Type 0 where
     pub said : calls ≡ spoken [] requests
     pub answered : answers ≡ map (λ e. e.answer) (reverse (run P T C n (reverse calls)).history)
     pub told : lines ≡ flat_map (λ e. e.lines) (reverse (run P T C n (reverse calls)).history)

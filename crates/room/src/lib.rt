@@ -1,4 +1,4 @@
-// A house driven call by call with its live ticket in hand, and whole lists of calls. The law stands here.
+// A house driven call by call with its live ticket in hand. The law stands after each call.
 #![tactic(auto)]
 
 pub mod asking;

@@ -1,9 +1,7 @@
-use Rattle.std.proofs.Common.{◌≡◌, Some, sym, refl, ap, ◌∙◌, subst}
+use Rattle.std.proofs.Common.{refl, ap}
 use Rattle.std.proofs.lemmas.Int.{to_z-of_z}
 use Rattle.rules.specs.declared.call.Call.TheVariants.{Announce}
 use Rattle.rules.specs.declared.call.Answer.TheVariants.{Ticket, Refused}
-use Rattle.rules.specs.Books.{bidding}
-use Rattle.rules.specs.Rules.{quietly}
 use Rattle.room.specs.Hands.{hand_ticket}
 use Rattle.room.proofs.Laws.{quiet_makes}
 use Rattle.room.proofs.Turning.{announced_turns, refused_turns}

@@ -1,4 +1,4 @@
-use Rattle.std.proofs.Common.{◌≡◌, [], Some, sym, refl, ap, ◌∙◌, subst}
+use Rattle.std.proofs.Common.{Some, sym, refl, ap, ◌∙◌, subst}
 use Rattle.rules.specs.declared.call.Call.TheVariants.{Publish}
 use Rattle.rules.specs.declared.call.Answer.TheVariants.{Published, Refused}
 use Rattle.rules.specs.Books.{sealed}

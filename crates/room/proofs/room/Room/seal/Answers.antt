@@ -1,9 +1,7 @@
-use Rattle.std.proofs.Common.{◌≡◌, [], Some, sym, refl, ap, ◌∙◌, subst}
-use Rattle.std.proofs.lemmas.Int.{to_z-of_z}
+use Rattle.std.proofs.Common.{[], Some, sym, refl, ap, ◌∙◌, subst}
 use Rattle.rules.specs.declared.call.Call.TheVariants.{Seal}
-use Rattle.rules.specs.declared.call.Answer.{Answer}
 use Rattle.rules.specs.declared.call.Answer.TheVariants.{Ticket, Refused}
-use Rattle.rules.specs.Books.{bidding, sealed}
+use Rattle.rules.specs.Books.{bidding}
 use Rattle.rules.specs.Rules.{quietly}
 use Rattle.house.specs.declared.house.House.{House}
 use Rattle.house.specs.declared.tickets.BiddingTicket.{BiddingTicket}

@@ -1,5 +1,4 @@
-use Rattle.std.proofs.Common.{◌≡◌, [], Some, sym, refl, ap, ◌∙◌, subst}
-use Rattle.std.proofs.lemmas.Int.{to_z-of_z}
+use Rattle.std.proofs.Common.{[], sym, refl, ap, ◌∙◌, subst}
 use Rattle.rules.specs.declared.call.Call.TheVariants.{Void}
 use Rattle.rules.specs.declared.call.Answer.{Answer}
 use Rattle.rules.specs.Books.{bidding, sealed}
