@@ -39,13 +39,13 @@ answers_of h = map (λ e. e.answer) (reverse h)
 abbrev pub lines_of : History → List Line
 lines_of h = flat_map (λ e. e.lines) (reverse h)
 
-module _ {A T C : Type 0} (balances : A → List ℤ) (free : A → ℕ) (shares : T → Sharing) (decides : C → Deciding) (P : Plan) (R : Sharing) (V : Deciding) (n : ℕ) (fresh : Type 0) (requests : List Request) where
+module _ {A T C : Type 0} (balances : A → List ℤ) (free : A → ℕ) (shares : T → Sharing) (decides : C → Deciding) (P : Plan) (R : Sharing) (V : Deciding) (n : ℕ) (fresh : Type 0) (asked : List Request) where
   pub record Going (i : ℕ) (calls : List Call) (answers : List Answer) (lines : List Line) (d : Room A T C) : Type 0 where
     pub plan : fresh → d.house.book.plan ≡ P
     pub rule : fresh → shares d.house.tie_rule ≡ R
     pub convention : fresh → decides d.house.convention ≡ V
     pub led : fresh → Led balances free shares decides d n (reverse calls)
-    pub said : fresh → calls ++ spoken P R V n (reverse calls) (drop i requests) ≡ spoken P R V n [] requests
+    pub said : fresh → calls ++ spoken P R V n (reverse calls) (drop i asked) ≡ spoken P R V n [] asked
     pub answered : fresh → answers ≡ answers_of (run P R V n (reverse calls)).history
     pub told : fresh → lines ≡ lines_of (run P R V n (reverse calls)).history
 
@@ -60,12 +60,12 @@ module _ {A T C : Type 0} (balances : A → List ℤ) (free : A → ℕ) (shares
   step_moved {P'} {R'} {V'} b b' c x p r v q e =
       subst (λ (y : Books). step P R V y c ≡ x) q (subst (λ (y : Deciding). step P R y b c ≡ x) v (subst (λ (y : Sharing). step P y V' b c ≡ x) r (subst (λ (y : Plan). step y R' V' b c ≡ x) p e)))
 
-  module _ (i : ℕ) (g g' : Log) (d d' : Room A T C) (z : Request) (lt : i < length requests) (t : Takes balances free shares decides d g (get_or requests i z) d' g') (s : Going i (vec_items g.calls) (vec_items g.answers) (vec_items g.lines) d) where
+  module _ (i : ℕ) (g g' : Log) (d d' : Room A T C) (z : Request) (lt : i < length asked) (t : Takes balances free shares decides d g (get_or asked i z) d' g') (s : Going i (vec_items g.calls) (vec_items g.answers) (vec_items g.lines) d) where
     abbrev past : List Call
     past = reverse (vec_items g.calls)
 
     abbrev c : Call
-    c = meant (room_books balances free shares decides d) (get_or requests i z)
+    c = meant (room_books balances free shares decides d) (get_or asked i z)
 
     abbrev e : Entry
     e = record { call = c; answer = t.answer; lines = t.lines }
@@ -83,16 +83,16 @@ module _ {A T C : Type 0} (balances : A → List ℤ) (free : A → ℕ) (shares
     reversed : fresh → reverse (run P R V n (reverse (vec_items g'.calls))).history ≡ reverse (run P R V n past).history ++ e ∷ []
     reversed f = ap (λ (cs : List Call). reverse (run P R V n cs).history) past_more ∙ ap reverse (history_more f) ∙ reverse-append (e ∷ []) (run P R V n past).history
 
-    meaning : fresh → c ≡ meant (run P R V n past).books (get_or requests i z)
-    meaning f = ap (λ (b : Books). meant b (get_or requests i z)) (books f)
+    meaning : fresh → c ≡ meant (run P R V n past).books (get_or asked i z)
+    meaning f = ap (λ (b : Books). meant b (get_or asked i z)) (books f)
 
     abbrev rest : List Request
-    rest = drop (i + 1) requests
+    rest = drop (i + 1) asked
 
-    opened : drop i requests ≡ get_or requests i z ∷ rest
-    opened = at_drop_more (λ rs. rs) requests i z lt
+    opened : drop i asked ≡ get_or asked i z ∷ rest
+    opened = at_drop_more (λ rs. rs) asked i z lt
 
-    said_more : fresh → vec_items g'.calls ++ spoken P R V n (reverse (vec_items g'.calls)) rest ≡ spoken P R V n [] requests
+    said_more : fresh → vec_items g'.calls ++ spoken P R V n (reverse (vec_items g'.calls)) rest ≡ spoken P R V n [] asked
     said_more f =
         ap (λ (cs : List Call). cs ++ spoken P R V n (reverse (vec_items g'.calls)) rest) t.calls
         ∙ append_assoc (vec_items g.calls) (c ∷ []) (spoken P R V n (reverse (vec_items g'.calls)) rest)
@@ -112,10 +112,10 @@ module _ {A T C : Type 0} (balances : A → List ℤ) (free : A → ℕ) (shares
       told = λ f. t.told ∙ ap (λ (xs : List Line). xs ++ t.lines) (s.told f) ∙ flat_map_more (λ (y : Entry). y.lines) [] (reverse (run P R V n past).history) e ∙ sym (ap (flat_map (λ (y : Entry). y.lines)) (reversed f));
     }
 
-  pub going_ended : (i : ℕ) (calls : List Call) (answers : List Answer) (lines : List Line) (d : Room A T C) (h : House A T C) → Going i calls answers lines d → length requests ≤ i → Closes balances free shares decides d h → fresh
-      → RunShows P R V n requests calls answers lines (house_books balances free h)
+  pub going_ended : (i : ℕ) (calls : List Call) (answers : List Answer) (lines : List Line) (d : Room A T C) (h : House A T C) → Going i calls answers lines d → length asked ≤ i → Closes balances free shares decides d h → fresh
+      → RunShows P R V n asked calls answers lines (house_books balances free h)
   going_ended i calls answers lines d h s past_end x f = record {
-    said = sym (append-nil calls) ∙ ap (λ (rs : List Request). calls ++ spoken P R V n (reverse calls) rs) (sym (at_drop_all (λ rs. rs) requests i past_end)) ∙ s.said f;
+    said = sym (append-nil calls) ∙ ap (λ (rs : List Request). calls ++ spoken P R V n (reverse calls) rs) (sym (at_drop_all (λ rs. rs) asked i past_end)) ∙ s.said f;
     answered = s.answered f;
     told = s.told f;
     books = left;
@@ -130,13 +130,13 @@ module _ {A T C : Type 0} (balances : A → List ℤ) (free : A → ℕ) (shares
       left = x.books (s.led f).live ∙ ap closed ((s.led f).books ∙ ap (λ (r : Run). r.books) (same i calls answers lines d s f (reverse calls)))
 
 -- a room just opened
-pub going_start : {A T C : Type 0} (balances : A → List ℤ) (free : A → ℕ) (shares : T → Sharing) (decides : C → Deciding) (P : Plan) (accounts : A) (rule : T) (convention : C) (requests : List Request) (calls : List Call) (answers : List Answer) (lines : List Line) (d : Room A T C)
+pub going_start : {A T C : Type 0} (balances : A → List ℤ) (free : A → ℕ) (shares : T → Sharing) (decides : C → Deciding) (P : Plan) (accounts : A) (rule : T) (convention : C) (asked : List Request) (calls : List Call) (answers : List Answer) (lines : List Line) (d : Room A T C)
     → calls ≡ [] → answers ≡ [] → lines ≡ [] → Opens balances free shares decides P accounts rule convention d
-    → Going balances free shares decides P (shares rule) (decides convention) (free accounts) (New (balances accounts)) requests 0 calls answers lines d
-going_start balances free shares decides P accounts rule convention requests calls answers lines d c a l o =
-    subst (λ (cs : List Call). Going balances free shares decides P (shares rule) (decides convention) (free accounts) (New (balances accounts)) requests 0 cs answers lines d) (sym c)
-    (subst (λ (xs : List Answer). Going balances free shares decides P (shares rule) (decides convention) (free accounts) (New (balances accounts)) requests 0 [] xs lines d) (sym a)
-    (subst (λ (ls : List Line). Going balances free shares decides P (shares rule) (decides convention) (free accounts) (New (balances accounts)) requests 0 [] [] ls d) (sym l)
+    → Going balances free shares decides P (shares rule) (decides convention) (free accounts) (New (balances accounts)) asked 0 calls answers lines d
+going_start balances free shares decides P accounts rule convention asked calls answers lines d c a l o =
+    subst (λ (cs : List Call). Going balances free shares decides P (shares rule) (decides convention) (free accounts) (New (balances accounts)) asked 0 cs answers lines d) (sym c)
+    (subst (λ (xs : List Answer). Going balances free shares decides P (shares rule) (decides convention) (free accounts) (New (balances accounts)) asked 0 [] xs lines d) (sym a)
+    (subst (λ (ls : List Line). Going balances free shares decides P (shares rule) (decides convention) (free accounts) (New (balances accounts)) asked 0 [] [] ls d) (sym l)
     (record {
       plan = λ _. o.plan;
       rule = λ _. ap shares o.rule_is;
@@ -159,11 +159,11 @@ module _ {A T C : Type 0} (balances : A → List ℤ) (free : A → ℕ) (shares
   }
 
   -- and by what it was made of
-  pub shows_made : (P : Plan) (accounts : A) (rule : T) (convention : C) (d : Room A T C) (requests : List Request) (calls : List Call) (answers : List Answer) (lines : List Line) (b : Books) → Opens balances free shares decides P accounts rule convention d
-      → (New (balances d.house.accounts) → RunShows d.house.book.plan (shares d.house.tie_rule) (decides d.house.convention) (free d.house.accounts) requests calls answers lines b)
-      → New (balances accounts) → RunShows P (shares rule) (decides convention) (free accounts) requests calls answers lines b
-  shows_made P accounts rule convention d requests calls answers lines b o f =
-      subst (λ (x : C). New (balances accounts) → RunShows P (shares rule) (decides x) (free accounts) requests calls answers lines b) o.convention_is
-      (subst (λ (x : T). New (balances accounts) → RunShows P (shares x) (decides d.house.convention) (free accounts) requests calls answers lines b) o.rule_is
-      (subst (λ (x : A). New (balances x) → RunShows P (shares d.house.tie_rule) (decides d.house.convention) (free x) requests calls answers lines b) o.held
-      (subst (λ (x : Plan). New (balances d.house.accounts) → RunShows x (shares d.house.tie_rule) (decides d.house.convention) (free d.house.accounts) requests calls answers lines b) o.plan f)))
+  pub shows_made : (P : Plan) (accounts : A) (rule : T) (convention : C) (d : Room A T C) (asked : List Request) (calls : List Call) (answers : List Answer) (lines : List Line) (b : Books) → Opens balances free shares decides P accounts rule convention d
+      → (New (balances d.house.accounts) → RunShows d.house.book.plan (shares d.house.tie_rule) (decides d.house.convention) (free d.house.accounts) asked calls answers lines b)
+      → New (balances accounts) → RunShows P (shares rule) (decides convention) (free accounts) asked calls answers lines b
+  shows_made P accounts rule convention d asked calls answers lines b o f =
+      subst (λ (x : C). New (balances accounts) → RunShows P (shares rule) (decides x) (free accounts) asked calls answers lines b) o.convention_is
+      (subst (λ (x : T). New (balances accounts) → RunShows P (shares x) (decides d.house.convention) (free accounts) asked calls answers lines b) o.rule_is
+      (subst (λ (x : A). New (balances x) → RunShows P (shares d.house.tie_rule) (decides d.house.convention) (free x) asked calls answers lines b) o.held
+      (subst (λ (x : Plan). New (balances d.house.accounts) → RunShows x (shares d.house.tie_rule) (decides d.house.convention) (free d.house.accounts) asked calls answers lines b) o.plan f)))

@@ -30,8 +30,7 @@ fn product(dollars: u32, rise: i32) -> i64
 pub fn gain(dollars: u32, rise: i32) -> i64
     ensures { result ≡ pos dollars *ℤ rise }
 {
-    let change = product(dollars, rise);
-    change
+    product(dollars, rise)
 }
 
 // The centavos of a payment line: dollars times the signed rise of the rate, in ten-thousandths of a peso.
