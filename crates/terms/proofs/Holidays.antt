@@ -1,19 +1,10 @@
--- A turn of the loop over the holidays, and what a search for a day among them tells.
+-- What a search for a day among the holidays tells.
 use Rattle.std.proofs.Common.{◌≡◌, ℕ, ◌+◌, ◌<◌, Bool, true, false, ◌&&◌, int_eq, List, length, get_or, drop, ℤ, pos, Decides, sym, refl, ap, ◌∙◌, arith}
-use lib.Signed.{lt_z}
 use Rattle.std.specs.List.{IsAnyAnswer}
 use Rattle.std.proofs.lemmas.List.Elements.{contains_decides}
-use Rattle.std.proofs.lemmas.List.{at_drop_more}
 use Rattle.std.proofs.lemmas.Int.{ints}
 use Rattle.std.proofs.lemmas.Bool.Decides.{Decides-by_or, same_from_decides, Decides-int_eq}
-use Rattle.terms.specs.Ranges.{is_day}
-use Rattle.terms.specs.Plans.{ascend, same, is_among}
-
-pub ascend-more : (xs : List ℤ) (i : ℕ) (last : ℤ) (all : Bool) → i < length xs → true ≡ (lt_z last (get_or xs i (pos 0)) && is_day (get_or xs i (pos 0))) → ascend last (drop i xs) ≡ all → ascend (get_or xs i (pos 0)) (drop (i + 1) xs) ≡ all
-ascend-more xs i last all h e inv = ap (λ b. b && ascend (get_or xs i (pos 0)) (drop (i + 1) xs)) e ∙ sym (at_drop_more (ascend last) xs i (pos 0) h) ∙ inv
-
-pub ascend-stop : (xs : List ℤ) (i : ℕ) (last : ℤ) (all : Bool) → i < length xs → false ≡ (lt_z last (get_or xs i (pos 0)) && is_day (get_or xs i (pos 0))) → ascend last (drop i xs) ≡ all → false ≡ all
-ascend-stop xs i last all h e inv = ap (λ b. b && ascend (get_or xs i (pos 0)) (drop (i + 1) xs)) e ∙ sym (at_drop_more (ascend last) xs i (pos 0) h) ∙ inv
+use Rattle.terms.specs.Plans.{same, is_among}
 
 same-decides : (a b : ℤ) → Decides (same a b) (a ≡ b)
 same-decides a b = (λ h. grind (arith, ints), λ h. grind (arith, ints))

@@ -1,3 +1,3 @@
+pub mod Answered
 pub mod Dates
 pub mod Holidays
-pub mod Rounds

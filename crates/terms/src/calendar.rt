@@ -24,7 +24,7 @@ pub struct Date {
 fn leap_day(year: u16) -> u32
     ensures { result ≡ leap_day year }
 {
-    if year % 4 == 0 { 1 } else { 0 }
+    u32::from(year % 4 == 0)
 }
 
 // Days of the year before the month, counted from 0.
@@ -56,11 +56,12 @@ fn month_of(leap: u32, within: u32) -> usize
     requires { (leap ≤ 1) × (within < 365 + leap) }
     ensures { (result < 12) × ((month_start leap result ≤ within) × (within < month_end leap result)) }
 {
-    let mut month: usize = 0;
-    while month < 11 && month_start(leap, month + 1) <= within {
-        month += 1;
+    for month in 0..11 {
+        if within < month_end(leap, month) {
+            return month;
+        }
     }
-    month
+    11
 }
 
 impl Date {
@@ -75,12 +76,12 @@ impl Date {
             return Err(Refusal::NoSuchDay);
         }
         let leap = leap_day(self.year);
-        let month = (self.month - 1) as usize;
-        let within = month_start(leap, month) + self.day as u32;
+        let month = usize::from(self.month - 1);
+        let within = month_start(leap, month) + u32::from(self.day);
         if within > month_end(leap, month) {
             return Err(Refusal::NoSuchDay);
         }
-        let years = (self.year - FIRST_YEAR) as u32;
+        let years = u32::from(self.year - FIRST_YEAR);
         Ok(365 * years + years / 4 + within - 1)
     }
 }
@@ -147,9 +148,6 @@ impl Weekday {
     pub fn is_weekend(self) -> bool
         ensures { result ≡ is_weekend self }
     {
-        match self {
-            Weekday::Sunday | Weekday::Saturday => true,
-            _ => false,
-        }
+        matches!(self, Weekday::Sunday | Weekday::Saturday)
     }
 }

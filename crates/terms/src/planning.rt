@@ -12,10 +12,12 @@ use crate::refusal::Refusal;
 
 const MOST_HOLIDAYS: usize = 64;
 
-impl Percent {
-    pub fn new(percent: i64) -> Result<Percent, Refusal>
-        ensures { percent_answer result ≡ answered (first ((AmountOutOfRange, not (is_percent percent)) ∷ [])) (unsigned_abs percent) }
-    {
+impl TryFrom<i64> for Percent {
+    type Error = Refusal;
+
+    ghost try_from_gives = { λ percent answer. percent_answer answer ≡ answered (first ((AmountOutOfRange, not (is_percent percent)) ∷ [])) (unsigned_abs percent) };
+
+    fn try_from(percent: i64) -> Result<Percent, Refusal> {
         if !PERCENTS.has(percent) {
             return Err(Refusal::AmountOutOfRange);
         }
@@ -23,7 +25,9 @@ impl Percent {
             value: percent as u8,
         })
     }
+}
 
+impl Percent {
     pub fn value(self) -> u8
         ensures { result ≡ self.value }
     {
@@ -70,10 +74,8 @@ fn listed(holidays: &[i64]) -> [i64; 64]
     requires { length holidays.now ≤ 64 }
     ensures { (length result ≡ 64) × (take (length holidays.now) result ≡ holidays.now) }
 {
-    let mut list = [0; 64];
-    for i in 0..holidays.len() {
-        list[i] = holidays[i];
-    }
+    let mut list = [0; MOST_HOLIDAYS];
+    list[..holidays.len()].copy_from_slice(holidays);
     list
 }
 
@@ -81,7 +83,7 @@ impl Plan {
     pub fn check(start: i64, percent: i64, holidays: &[i64]) -> Result<Plan, Refusal>
         ensures { PlanAnswer start percent holidays.now result }
     {
-        let part = Percent::new(percent)?;
+        let part = Percent::try_from(percent)?;
         if !ascending(holidays) || !is_business_day(holidays, start) {
             return Err(Refusal::NoSuchDay);
         }

@@ -15,17 +15,16 @@ pub fn rate_by_units(units: i64, current: u32) -> Result<u32, Refusal>
     if !UNITS.has(units) {
         return Err(Refusal::PriceOutOfRange);
     }
-    let rate = units + current as i64;
-    if !RATES.has(rate) {
-        return Err(Refusal::PriceOutOfRange);
-    }
-    Ok(rate as u32)
+    let rate = units + i64::from(current);
+    Rate::try_from(rate).map(Rate::units)
 }
 
-impl Rate {
-    pub fn check(units: i64) -> Result<Rate, Refusal>
-        ensures { rate_answer result ≡ answered (first (rate_tests units)) (unsigned_abs units) }
-    {
+impl TryFrom<i64> for Rate {
+    type Error = Refusal;
+
+    ghost try_from_gives = { λ units answer. rate_answer answer ≡ answered (first (rate_tests units)) (unsigned_abs units) };
+
+    fn try_from(units: i64) -> Result<Rate, Refusal> {
         if !RATES.has(units) {
             return Err(Refusal::PriceOutOfRange);
         }
@@ -33,7 +32,9 @@ impl Rate {
             units: units as u32,
         })
     }
+}
 
+impl Rate {
     pub fn units(self) -> u32
         ensures { result ≡ self.units }
     {

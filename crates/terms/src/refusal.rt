@@ -5,29 +5,29 @@ ghost use Rattle.terms.specs.Refusals.{number_of};
 #[derive(Clone, Copy, PartialEq, Eq, Debug)]
 pub enum Refusal {
     // from the input alone
-    UnknownParty,
-    AmountOutOfRange,
-    UnknownKind,
-    PriceOutOfRange,
-    NoSuchDay,
-    WrongLength,
-    BadNumber,
-    BadRecord,
+    UnknownParty = 1,
+    AmountOutOfRange = 2,
+    UnknownKind = 3,
+    PriceOutOfRange = 4,
+    NoSuchDay = 5,
+    WrongLength = 6,
+    BadNumber = 7,
+    BadRecord = 8,
     // from the state of the house
-    AlreadyAdmitted,
-    NotAdmitted,
-    AuctionStands,
-    WrongTicket,
-    BidsFull,
-    CapPassed,
-    OfferAboveMatured,
-    HedgePlacesFull,
-    NumbersUsedUp,
-    DayOutOfOrder,
-    NoFreePosting,
-    HedgeNotOpen,
-    NoFixYet,
-    CollateralOutOfBounds,
+    AlreadyAdmitted = 11,
+    NotAdmitted = 12,
+    AuctionStands = 13,
+    WrongTicket = 14,
+    BidsFull = 15,
+    CapPassed = 16,
+    OfferAboveMatured = 17,
+    HedgePlacesFull = 18,
+    NumbersUsedUp = 19,
+    DayOutOfOrder = 20,
+    NoFreePosting = 21,
+    HedgeNotOpen = 22,
+    NoFixYet = 23,
+    CollateralOutOfBounds = 24,
 }
 
 impl Refusal {
@@ -35,29 +35,6 @@ impl Refusal {
     pub fn number(self) -> u8
         ensures { result ≡ number_of self }
     {
-        match self {
-            Refusal::UnknownParty => 1,
-            Refusal::AmountOutOfRange => 2,
-            Refusal::UnknownKind => 3,
-            Refusal::PriceOutOfRange => 4,
-            Refusal::NoSuchDay => 5,
-            Refusal::WrongLength => 6,
-            Refusal::BadNumber => 7,
-            Refusal::BadRecord => 8,
-            Refusal::AlreadyAdmitted => 11,
-            Refusal::NotAdmitted => 12,
-            Refusal::AuctionStands => 13,
-            Refusal::WrongTicket => 14,
-            Refusal::BidsFull => 15,
-            Refusal::CapPassed => 16,
-            Refusal::OfferAboveMatured => 17,
-            Refusal::HedgePlacesFull => 18,
-            Refusal::NumbersUsedUp => 19,
-            Refusal::DayOutOfOrder => 20,
-            Refusal::NoFreePosting => 21,
-            Refusal::HedgeNotOpen => 22,
-            Refusal::NoFixYet => 23,
-            Refusal::CollateralOutOfBounds => 24,
-        }
+        self as u8
     }
 }

@@ -19,31 +19,25 @@ pub fn hundredth(amount: i64) -> i64
     }
 }
 
-// Both factors have 32 bits, so the product has 64.
-fn product(dollars: u32, rise: i32) -> i64
-    ensures { result ≡ pos dollars *ℤ rise }
-{
-    dollars as i64 * rise as i64
-}
-
 // What dollars gain by a rise of the rate, in ten-thousandths of a peso.
+// Both factors have 32 bits, so the product has 64.
 pub fn gain(dollars: u32, rise: i32) -> i64
     ensures { result ≡ pos dollars *ℤ rise }
 {
-    product(dollars, rise)
+    i64::from(dollars) * i64::from(rise)
 }
 
 // The centavos of a payment line: dollars times the signed rise of the rate, in ten-thousandths of a peso.
 pub fn payment(dollars: u32, rise: i32) -> i64
     ensures { result ≡ rounded (pos dollars *ℤ rise) }
 {
-    hundredth(product(dollars, rise))
+    hundredth(gain(dollars, rise))
 }
 
 fn hundredth_up(amount: u64) -> u64
     ensures { result ≡ rounded_up amount }
 {
-    amount / 100 + if amount % 100 > 0 { 1 } else { 0 }
+    amount.div_ceil(100)
 }
 
 // The part of a loss, rounded up; a hundredth of any i64 leaves room for 100 percent.
@@ -51,7 +45,7 @@ fn part_of(centavos: u64, part: Percent) -> u64
     requires { centavos ≤ 92233720368547759 }
     ensures { result ≡ rounded_up (centavos * part.value) }
 {
-    hundredth_up(centavos * part.value as u64)
+    hundredth_up(centavos * u64::from(part.value))
 }
 
 // What a value asks for as a guarantee: its loss in centavos rounded up, and of that the part, rounded up.

@@ -1,9 +1,6 @@
-use Rattle.std.proofs.Common.{◌-◌, ◌≤◌}
+use Rattle.std.proofs.Common.{◌≤◌}
 use Rattle.terms.specs.Calendar.{month_start}
 use Rattle.terms.proofs.calendar.month_of.Given as goal
 
 abbrev pub invariant-loop-month : goal.invariant-loop-month
-invariant-loop-month l = (l.month ≤ 11) × (month_start l.leap l.month ≤ l.within)
-
-abbrev pub decreases-loop-month : goal.decreases-loop-month
-decreases-loop-month l = 12 - l.month
+invariant-loop-month l = month_start l.leap l.month ≤ l.within
