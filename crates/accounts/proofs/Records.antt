@@ -9,8 +9,9 @@ use Rattle.terms.specs.Ranges.{is_party}
 use Rattle.terms.specs.Refusals.{first, answered}
 use Rattle.accounts.specs.declared.posting.Posting.{Posting}
 use Rattle.accounts.specs.Postings.{Accepted, same_party, posting_refused, question_tests, balance_of, moved, total}
-use Rattle.accounts.specs.Journals.{share, moved_into, recorded, balance_by, journal_balances, free_places}
-use Rattle.accounts.proofs.Answered.{back, answered-none, new_unless}
+use Rattle.accounts.specs.Journals.{share, moved_into, recorded, balance_by, journal_balances}
+use Rattle.terms.proofs.Answered.{answered-none, new_unless}
+use Rattle.accounts.proofs.Answered.{back}
 use Rattle.accounts.proofs.Totals.{total-push}
 
 abbrev pub blank : Posting
@@ -154,12 +155,3 @@ balance_answered k r n ps used party fk fr is e =
     ∙ ap (balance_by (recorded ps used)) (sym itself)
     ∙ sym (get_or-map-range_with_len (λ j. balance_by (recorded ps used) (pos j)) 0 17 (nat_abs k) (nat_abs k) (pos 0) i (omega arith)) in
     ap Ok value ∙ answered-none (balance_of k (journal_balances ps used)) (rw party' refl)
-
--- a record written uses one place
-pub free_less : (ps : List Posting) (n : ℕ) (p : Posting) → free_places (set ps n p) (n + 1) ≡ free_places ps n - 1
-free_less ps n p = simp length-set (omega arith)
-
--- a record as it is written
-pub posting_back : (a b c : ℤ) → SFits w64 a → SFits w64 b → SFits w64 c
-    → ◌≡◌ {A = Posting} (record { payer = back a; payee = back b; centavos = back c }) (record { payer = a; payee = b; centavos = c })
-posting_back a b c fa fb fc = simp to_z-of_z

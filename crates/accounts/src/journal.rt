@@ -4,7 +4,7 @@ ghost use Rattle.accounts.specs.Postings.{moved, noughts};
 ghost use Rattle.accounts.specs.Journals.{balance_by, journal_balances, free_places, journal_refused, most_journal, limited_journal, parties-journal};
 
 use crate::Accounts;
-use crate::posting::{Posting, test_posting};
+use crate::posting::Posting;
 use terms::range::PARTIES;
 use terms::refusal::Refusal;
 
@@ -86,14 +86,14 @@ impl<'a> Accounts for Journal<'a> {
         ensures writes { self.new.list.now ≡ unless_refused (journal_refused payer payee centavos self.old.list.now self.old.used) (set self.old.list.now self.old.used (record { payer = payer; payee = payee; centavos = centavos })) self.old.list.now }
         ensures lends { self.new.list.ghost_name ≡ self.old.list.ghost_name }
     {
-        test_posting(payer, payee, centavos, self.free_postings())?;
-        let place = self.used;
-        self.list[place] = Posting {
+        let posting = Posting {
             payer,
             payee,
             centavos,
         };
-        self.used = place + 1;
+        posting.test(self.free_postings())?;
+        self.list[self.used] = posting;
+        self.used += 1;
         Ok(())
     }
 }

@@ -7,7 +7,7 @@ use terms::range::{PARTIES, POSTINGS};
 use terms::refusal::Refusal;
 
 // A record of a posting: who paid whom how much.
-#[derive(Clone, Copy)]
+#[derive(Clone, Copy, PartialEq, Eq, Debug)]
 pub struct Posting {
     pub payer: i64,
     pub payee: i64,
@@ -15,19 +15,37 @@ pub struct Posting {
 }
 
 impl Posting {
-    // What the record moves into a party's balance. A caller's list may hold records that no posting makes.
-    pub(crate) fn moved_into(&self, party: i64) -> i64
-        ensures { result ≡ moved_into party self.now }
+    // Tests a posting, in the order of its refusals, with so many still free.
+    pub(crate) fn test(self, free: usize) -> Result<(), Refusal>
+        ensures answer { result ≡ answered (posting_refused self.payer self.payee self.centavos free) tt }
+        ensures accepted { OnOk result (Accepted self.payer self.payee self.centavos free) }
     {
-        match test_posting(self.payer, self.payee, self.centavos, 1) {
-            Ok(()) => self.share(party),
-            Err(_) => 0,
+        if !PARTIES.has(self.payer) || !PARTIES.has(self.payee) || self.payer == self.payee {
+            return Err(Refusal::UnknownParty);
+        }
+        if !POSTINGS.has(self.centavos) {
+            return Err(Refusal::AmountOutOfRange);
+        }
+        if free == 0 {
+            return Err(Refusal::NoFreePosting);
+        }
+        Ok(())
+    }
+
+    // What the record moves into a party's balance. A caller's list may hold records that no posting makes.
+    pub(crate) fn moved_into(self, party: i64) -> i64
+        ensures { result ≡ moved_into party self }
+    {
+        if self.test(1).is_ok() {
+            self.share(party)
+        } else {
+            0
         }
     }
 
-    fn share(&self, party: i64) -> i64
-        requires { pos 0 ≤ℤ self.now.centavos }
-        ensures { result ≡ share party self.now }
+    fn share(self, party: i64) -> i64
+        requires { pos 0 ≤ℤ self.centavos }
+        ensures { result ≡ share party self }
     {
         if self.payer == party {
             -self.centavos
@@ -37,26 +55,4 @@ impl Posting {
             0
         }
     }
-}
-
-// Tests a posting, in the order of its refusals.
-pub(crate) fn test_posting(
-    payer: i64,
-    payee: i64,
-    centavos: i64,
-    free: usize,
-) -> Result<(), Refusal>
-    ensures answer { result ≡ answered (posting_refused payer payee centavos free) tt }
-    ensures accepted { OnOk result (Accepted payer payee centavos free) }
-{
-    if !PARTIES.has(payer) || !PARTIES.has(payee) || payer == payee {
-        return Err(Refusal::UnknownParty);
-    }
-    if !POSTINGS.has(centavos) {
-        return Err(Refusal::AmountOutOfRange);
-    }
-    if free == 0 {
-        return Err(Refusal::NoFreePosting);
-    }
-    Ok(())
 }

@@ -3,7 +3,7 @@ ghost use Rattle.accounts.specs.Postings.{noughts};
 ghost use Rattle.accounts.specs.Tables.{most_table};
 
 use crate::Accounts;
-use crate::posting::test_posting;
+use crate::posting::Posting;
 use crate::table::Table;
 use terms::range::PARTIES;
 use terms::refusal::Refusal;
@@ -51,7 +51,12 @@ impl Accounts for Table {
     }
 
     fn post(&mut self, payer: i64, payee: i64, centavos: i64) -> Result<(), Refusal> {
-        test_posting(payer, payee, centavos, self.free)?;
+        let posting = Posting {
+            payer,
+            payee,
+            centavos,
+        };
+        posting.test(self.free)?;
         let (from, to) = (payer as usize, payee as usize);
         let less = self.balances[from] - centavos;
         let more = self.balances[to] + centavos;

@@ -1,7 +1,7 @@
-use Rattle.std.proofs.Common.{refl, arith}
+use Rattle.std.proofs.Common.{refl}
 use Rattle.accounts.specs.Journals.{journal_balances}
 use Rattle.accounts.proofs.journal.Journal.new.Goals as goal
 
-pub returns : goal.returns
+pub returns-clause-balances : goal.returns-clause-balances
 unfolding journal_balances
-returns c = record { list = refl; lends = refl; used = refl; balances = refl; free = omega arith }
+returns-clause-balances c = refl
