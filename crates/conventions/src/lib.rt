@@ -6,7 +6,7 @@ ghost use Rattle.conventions.specs.Conventions.{daily, at_maturity};
 ghost use Rattle.conventions.specs.Deciding.{Deciding, is_settle};
 
 // What a convention is asked of a hedge at a fixing.
-#[derive(Clone, Copy)]
+#[derive(Clone, Copy, PartialEq, Eq, Debug)]
 pub struct Question {
     pub day: u32,
     // since the last settlement, or since the auction where there was none
@@ -26,10 +26,7 @@ impl Decision {
     pub fn settles(self) -> bool
         ensures { result ≡ is_settle self }
     {
-        match self {
-            Decision::Settle => true,
-            Decision::Wait => false,
-        }
+        self == Decision::Settle
     }
 }
 

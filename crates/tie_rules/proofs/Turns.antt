@@ -1,6 +1,5 @@
 -- One turn of each loop. Assumes nothing.
-use Rattle.std.proofs.Common.{◌≡◌, ℕ, zero, suc, ◌+◌, ◌-◌, ◌*◌, ◌/◌, ◌<◌, ◌≤◌, min, true, ◌&&◌, leb, List, [], ◌∷◌, ◌++◌, map, length, get_or, take, drop, set, sum, sym, refl, ap, ◌∙◌, mul-le-mul_right, arith}
-use native.Mathlib.Nat.{div-le_of_le-mul}
+use Rattle.std.proofs.Common.{◌≡◌, ℕ, zero, suc, ◌+◌, ◌-◌, ◌*◌, ◌/◌, ◌<◌, ◌≤◌, min, true, leb, List, [], ◌∷◌, ◌++◌, map, length, get_or, take, drop, set, sum, sym, refl, ap, ◌∙◌, arith}
 use Rattle.std.specs.List.{AllByRecursion, list_all}
 use Rattle.std.proofs.lemmas.List.{at_drop_more, at_drop_all, take_all, take_more_set, append_assoc, append-nil, drop_all, map_more}
 use Rattle.std.proofs.lemmas.Bool.{and_parts, leb-true}
@@ -8,10 +7,6 @@ use Rattle.std.proofs.lemmas.List.Sums.{sum-map, sum_by_more, sum_by-take-le}
 use Rattle.tie_rules.specs.Rules.{shares_by_receipt, parts, one_more_each}
 use Rattle.tie_rules.specs.Meanings.{missing, part_less}
 use Rattle.tie_rules.specs.Sharing.{is_dollars}
-
--- ---- the amounts are looked at in turn
-pub range_more : (amounts : List ℕ) (i : ℕ) → i < length amounts → list_all is_dollars (drop i amounts) ≡ (is_dollars (get_or amounts i 0) && list_all is_dollars (drop (i + 1) amounts))
-range_more amounts i la = at_drop_more (list_all is_dollars) amounts i 0 la
 
 -- ---- by receipt
 -- what is written, with what the amounts after it are still to take, are the shares
@@ -31,9 +26,6 @@ receipt_all amounts shares all i rest la ls inv =
     cc
 
 -- ---- pro rata
-pub part_most : (left total amount : ℕ) → left < total → left * amount / total ≤ amount
-part_most left total amount less = div-le_of_le-mul total (mul-le-mul_right amount (omega arith))
-
 -- the parts of the first i amounts are written, and what they leave of the dollars is missing
 pub record Written (amounts : List ℕ) (left total i rest : ℕ) (shares : List ℕ) : Type 0 where
   pub front : take i shares ≡ parts left total (take i amounts)

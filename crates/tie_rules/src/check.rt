@@ -17,23 +17,14 @@ fn in_range(dollars: u32) -> bool
 fn all_in_range(amounts: &[u32]) -> bool
     ensures { result ≡ list_all is_dollars amounts.now }
 {
-    for amount in amounts {
-        if !in_range(*amount) {
-            return false;
-        }
-    }
-    true
+    amounts.iter().all(|amount| in_range(*amount))
 }
 
 fn total(amounts: &[u32]) -> u64
     requires { length amounts.now ≤ 64 }
     ensures { result ≡ sum amounts.now }
 {
-    let mut total: u64 = 0;
-    for amount in amounts {
-        total += u64::from(*amount);
-    }
-    total
+    amounts.iter().map(|amount| u64::from(*amount)).sum()
 }
 
 // The amounts' total, or why the sharing is refused.
