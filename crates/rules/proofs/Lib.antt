@@ -10,3 +10,4 @@ pub mod Rests
 pub mod Runs
 pub mod Sizes
 pub mod Stands
+pub mod Totals

@@ -1,5 +1,5 @@
 -- Further laws of every run: maturities, caps, and what matured against what was rolled.
-use Rattle.std.proofs.Common.{◌≡◌, ℕ, suc, ◌+◌, ◌*◌, ◌<◌, ◌≤◌, Bool, true, false, cond, not, ◌&&◌, eqb, ltb, List, [], ◌∷◌, ◌++◌, map, length, ℤ, pos, nat_abs, is_some, Some, None, filter, Option, sym, refl, ap, ◌∙◌, subst, ap₂, arith}
+use Rattle.std.proofs.Common.{◌≡◌, Err, ℕ, suc, ◌+◌, ◌*◌, ◌<◌, ◌≤◌, Bool, true, false, cond, not, ◌&&◌, eqb, ltb, List, [], ◌∷◌, ◌++◌, map, length, ℤ, pos, nat_abs, is_some, Some, None, filter, Option, sym, refl, ap, ◌∙◌, subst, ap₂, arith}
 use lib.Signed.{le_z, lt_z}
 use Rattle.std.specs.List.{AllByRecursion}
 use Rattle.std.proofs.lemmas.Int.{ints}
@@ -20,7 +20,6 @@ use Rattle.rules.specs.declared.hedge.Deal.{Deal}
 use Rattle.rules.specs.declared.hedge.Hedge.{Hedge}
 use Rattle.rules.specs.declared.call.Call.{Call}
 use Rattle.rules.specs.declared.call.Call.TheVariants.{Admit as admit, Announce as announce, Bid as bid, Seal as seal, Publish as publish, Void as void, Fix as fix, Lodge as lodge, Release as release, Terminate as terminate}
-use Rattle.rules.specs.declared.call.Answer.TheVariants.{Refused}
 use Rattle.rules.specs.Books.{Auction, Books, total, standing, stands}
 use Rattle.rules.specs.Allotment.{Got, entered, millions_of, allotted, numbered_from, deal_of, sold_at}
 use Rattle.rules.specs.Settlement.{turned, of_number, open_ones, fresh, closing, pays}
@@ -352,7 +351,7 @@ module _ (P : Plan) (T : Sharing) (C : Deciding) (h : History) (b : Books) (k : 
     where
       go : (o : Option Refusal) → first (tests P T C b c) ≡ o
           → Ordered P T (record { call = c; answer = (judged o (answers P T C b c) b (after P T C b c)).0.answer; lines = (judged o (answers P T C b c) b (after P T C b c)).0.lines } ∷ h) (judged o (answers P T C b c) b (after P T C b c)).1
-      go (Some why) e = quiet (record { call = c; answer = Refused why; lines = [] }) b (λ g. refl) refl refl refl refl refl refl s.caps s.offer
+      go (Some why) e = quiet (record { call = c; answer = Err why; lines = [] }) b (λ g. refl) refl refl refl refl refl refl s.caps s.offer
       go None e = ordered_after c (passed (tests P T C b c) e)
 
 ordered_run : (P : Plan) (T : Sharing) (C : Deciding) (free : ℕ) (calls : List Call) → Ordered P T (run P T C free calls).history (run P T C free calls).books

@@ -1,5 +1,5 @@
 -- (b): all hedges ever published, and their places, over each call.
-use Rattle.std.proofs.Common.{◌≡◌, ℕ, suc, ◌+◌, ◌-◌, ◌*◌, ◌<◌, ◌≤◌, Bool, true, false, cond, ◌&&◌, eqb, ◌⊎◌, List, [], ◌∷◌, ◌++◌, map, length, ℤ, pos, ◌-ℤ◌, ◌*ℤ◌, nat_abs, Some, None, filter, Option, sym, refl, ap, ◌∙◌, subst, ap₂, subst₂, inl, inr, arith, length-append}
+use Rattle.std.proofs.Common.{◌≡◌, Ok, ℕ, suc, ◌+◌, ◌-◌, ◌*◌, ◌<◌, ◌≤◌, Bool, true, false, cond, ◌&&◌, eqb, ◌⊎◌, List, [], ◌∷◌, ◌++◌, map, length, ℤ, pos, ◌-ℤ◌, ◌*ℤ◌, nat_abs, Some, None, filter, Option, sym, refl, ap, ◌∙◌, subst, ap₂, subst₂, inl, inr, arith, length-append}
 use Rattle.std.proofs.lemmas.Bool.{ne_eqb, eq-eqb, eqb-true, both_ways, and_right, cases_lt}
 use Rattle.std.proofs.lemmas.List.{append-nil, length-map}
 use Rattle.std.proofs.lemmas.List.Elements.{filter-append}
@@ -10,7 +10,7 @@ use Rattle.rules.proofs.Ledger.{ToInstitution}
 use Rattle.rules.proofs.Allotment.{Sound}
 use Rattle.rules.proofs.Lives.{here, kept_none, kept_map, kept_kept, kept_alike, going, Lived, lived_quiet, lived_turned, closed_same, fix_lines_of, end-lines_of, here-turned, here-turned_open}
 use Rattle.rules.specs.declared.call.Call.TheVariants.{Fix as fix, Terminate as terminate, Publish as publish}
-use Rattle.rules.specs.declared.call.Answer.TheVariants.{Fixed, Terminated, Published}
+use Rattle.rules.specs.declared.call.Accepted.TheVariants.{Fixed, Terminated, Published}
 use Rattle.rules.specs.declared.hedge.Line.{Line}
 use Rattle.rules.specs.declared.auction.Terms.{Terms}
 use Rattle.rules.specs.declared.hedge.Deal.{Deal}
@@ -93,7 +93,7 @@ penalties-none k desk (i ∷ is) h = ap (λ t. cond t (penalty desk i ∷ lines_
 
 -- ---- fix
 pub placed_fix : (T : Sharing) (C : Deciding) (d r : ℤ) (room count : ℕ) (desk : ℕ → Desk) (h : History) (day rate : ℕ) (hs : List Hedge) (m : ℕ) → day < nat_abs d → Placed T h day rate hs m
-    → Placed T (record { call = fix d r room; answer = Fixed count; lines = penalties desk ++ map (line_of (nat_abs r)) (filter (pays C (nat_abs d) (nat_abs r)) (open_ones hs)) } ∷ h)
+    → Placed T (record { call = fix d r room; answer = Ok (Fixed count); lines = penalties desk ++ map (line_of (nat_abs r)) (filter (pays C (nat_abs d) (nat_abs r)) (open_ones hs)) } ∷ h)
     (nat_abs d) (nat_abs r) (map (λ x. turned (pays C (nat_abs d) (nat_abs r) x) (closing (nat_abs d) x) (nat_abs d) (nat_abs r) x) (open_ones hs)) m
 placed_fix T C d r room count desk h day rate hs m later p = record {
   current = refl;
@@ -125,7 +125,7 @@ placed_fix T C d r room count desk h day rate hs m later p = record {
     new = penalties desk ++ map (line_of (nat_abs r)) payers
 
     e : Entry
-    e = record { call = fix d r room; answer = Fixed count; lines = new }
+    e = record { call = fix d r room; answer = Ok (Fixed count); lines = new }
 
     hs' : List Hedge
     hs' = map turn (open_ones hs)
@@ -144,7 +144,7 @@ pub none_here : (k m : ℕ) (hs : List Hedge) → m < k → AllByRecursion (On m
 none_here k m hs lt h = kept_none (of_number k) hs (All-weaker (On m) (λ x. of_number k x ≡ false) (λ x o. and_right x.live (eqb x.deal.number k) (ne_eqb x.deal.number k (λ q. omega (arith, o.1)))) hs h)
 
 pub placed_end : (T : Sharing) (n : ℤ) (line : Line) (h : History) (day rate : ℕ) (hs : List Hedge) (m : ℕ) → eqb (length (here (nat_abs n) hs)) 0 ≡ false → Placed T h day rate hs m
-    → Placed T (record { call = terminate n; answer = Terminated line; lines = map (line_of rate) (filter (of_number (nat_abs n)) hs) } ∷ h)
+    → Placed T (record { call = terminate n; answer = Ok (Terminated line); lines = map (line_of rate) (filter (of_number (nat_abs n)) hs) } ∷ h)
     day rate (map (λ x. turned (of_number (nat_abs n) x) (of_number (nat_abs n) x) day rate x) hs) m
 placed_end T n line h day rate hs m some p = record {
   current = p.current;
@@ -165,7 +165,7 @@ placed_end T n line h day rate hs m some p = record {
     new = map (line_of rate) (filter shut hs)
 
     e : Entry
-    e = record { call = terminate n; answer = Terminated line; lines = new }
+    e = record { call = terminate n; answer = Ok (Terminated line); lines = new }
 
     hs' : List Hedge
     hs' = map turn hs
@@ -265,9 +265,9 @@ all_both P Q [] a b = tt
 all_both P Q (x ∷ xs) a b = ((a.0, b.0), all_both P Q xs a.1 b.1)
 
 pub placed_publish : (T : Sharing) (n first count : ℕ) (h : History) (day rate : ℕ) (hs : List Hedge) (m : ℕ) (ds : List Deal)
-    → dealt T (record { call = publish n; answer = Published first count; lines = [] } ∷ h) ≡ ds ++ dealt T h
+    → dealt T (record { call = publish n; answer = Ok (Published first count); lines = [] } ∷ h) ≡ ds ++ dealt T h
     → Rising (suc m) ds → AllByRecursion (λ g. (day < g.maturity) × (1 ≤ g.institution) × (g.institution < 17)) ds
-    → Placed T h day rate hs m → Placed T (record { call = publish n; answer = Published first count; lines = [] } ∷ h) day rate (hs ++ map (fresh day) ds) (m + length ds)
+    → Placed T h day rate hs m → Placed T (record { call = publish n; answer = Ok (Published first count); lines = [] } ∷ h) day rate (hs ++ map (fresh day) ds) (m + length ds)
 placed_publish T n first count h day rate hs m ds deals rising sound p = record {
   current = p.current;
   places = All-append (On (m + length ds)) hs (map (fresh day) ds)
@@ -284,7 +284,7 @@ placed_publish T n first count h day rate hs m ds deals rising sound p = record 
 }
   where
     e : Entry
-    e = record { call = publish n; answer = Published first count; lines = [] }
+    e = record { call = publish n; answer = Ok (Published first count); lines = [] }
 
     hs' : List Hedge
     hs' = hs ++ map (fresh day) ds

@@ -1,5 +1,5 @@
 -- What questions answer after every call, and with it the law.
-use Rattle.std.proofs.Common.{◌≡◌, ℕ, suc, ◌+◌, ◌-◌, ◌<◌, ◌≤◌, Bool, false, cond, ◌&&◌, eqb, List, [], ◌∷◌, ◌++◌, map, length, ℤ, nat_abs, Some, None, filter, Option, sym, refl, ap, ◌∙◌, subst, ap₂, arith}
+use Rattle.std.proofs.Common.{◌≡◌, Err, ℕ, suc, ◌+◌, ◌-◌, ◌<◌, ◌≤◌, Bool, false, cond, ◌&&◌, eqb, List, [], ◌∷◌, ◌++◌, map, length, ℤ, nat_abs, Some, None, filter, Option, sym, refl, ap, ◌∙◌, subst, ap₂, arith}
 use Rattle.std.specs.List.{AllByRecursion}
 use Rattle.std.proofs.lemmas.Bool.{ne_eqb}
 use Rattle.std.proofs.lemmas.List.{append-nil}
@@ -15,7 +15,6 @@ use Rattle.rules.specs.declared.hedge.Deal.{Deal}
 use Rattle.rules.specs.declared.hedge.Hedge.{Hedge}
 use Rattle.rules.specs.declared.call.Call.{Call}
 use Rattle.rules.specs.declared.call.Call.TheVariants.{Admit as admit, Announce as announce, Bid as bid, Seal as seal, Publish as publish, Void as void, Fix as fix, Lodge as lodge, Release as release, Terminate as terminate}
-use Rattle.rules.specs.declared.call.Answer.TheVariants.{Refused}
 use Rattle.rules.specs.Books.{Books, standing}
 use Rattle.rules.specs.Allotment.{allotted}
 use Rattle.rules.specs.Settlement.{turned, of_number, open_ones, fresh, closing, pays, rise}
@@ -178,7 +177,7 @@ module _ (P : Plan) (T : Sharing) (C : Deciding) (h : History) (b : Books) (k : 
     where
       go : (o : Option Refusal) → first (tests P T C b c) ≡ o
           → Rested T (record { call = c; answer = (judged o (answers P T C b c) b (after P T C b c)).0.answer; lines = (judged o (answers P T C b c) b (after P T C b c)).0.lines } ∷ h) (judged o (answers P T C b c) b (after P T C b c)).1.hedges
-      go (Some why) e = quiet (record { call = c; answer = Refused why; lines = [] }) refl (λ g. refl) refl refl
+      go (Some why) e = quiet (record { call = c; answer = Err why; lines = [] }) refl (λ g. refl) refl refl
       go None e = rested_after c (passed (tests P T C b c) e)
 
 rested_run : (P : Plan) (T : Sharing) (C : Deciding) (free : ℕ) (calls : List Call) → Rested T (run P T C free calls).history (run P T C free calls).books.hedges

@@ -1,5 +1,5 @@
 -- The law, by induction over the calls.
-use Rattle.std.proofs.Common.{◌≡◌, ℕ, suc, ◌<◌, ◌≤◌, Bool, true, false, cond, ◌&&◌, eqb, List, [], ◌∷◌, ◌++◌, map, length, ℤ, pos, nat_abs, Some, None, filter, Option, sym, refl, ap, ◌∙◌, subst, ap₂, arith}
+use Rattle.std.proofs.Common.{◌≡◌, Err, ℕ, suc, ◌<◌, ◌≤◌, Bool, true, false, cond, ◌&&◌, eqb, List, [], ◌∷◌, ◌++◌, map, length, ℤ, pos, nat_abs, Some, None, filter, Option, sym, refl, ap, ◌∙◌, subst, ap₂, arith}
 use lib.Signed.{le_z, lt_z}
 use Rattle.std.proofs.lemmas.Int.{ints}
 use Rattle.std.proofs.lemmas.Bool.{or_parts, and_parts, not-false, leb-false, eqb-true}
@@ -13,7 +13,6 @@ use Rattle.rules.specs.declared.call.Call.TheVariants.{Admit as admit, Announce 
 use Rattle.rules.specs.declared.call.Call.{Call}
 use Rattle.rules.specs.declared.auction.TicketName.{TicketName}
 use Rattle.rules.specs.Books.{bidding, sealed, Auction, Books, standing, holds, with_desk, with_auction}
-use Rattle.rules.specs.declared.call.Answer.TheVariants.{Refused}
 use Rattle.terms.specs.declared.refusal.Refusal.{Refusal}
 use Rattle.terms.specs.Ranges.{within, is_institution, is_millions}
 use Rattle.rules.specs.declared.hedge.Deal.{Deal}
@@ -53,11 +52,11 @@ module _ (P : Plan) (T : Sharing) (C : Deciding) (h : History) (b : Books) (k : 
   abbrev pub entry : Call → Entry
   entry c = record { call = c; answer = (answers P T C b c).answer; lines = (answers P T C b c).lines }
 
-  pub kept_refused : (c : Call) (n : Refusal) → Kept T (record { call = c; answer = Refused n; lines = [] } ∷ h) b
+  pub kept_refused : (c : Call) (n : Refusal) → Kept T (record { call = c; answer = Err n; lines = [] } ∷ h) b
   kept_refused c n = record {
-    balanced = quiet_balanced (record { call = c; answer = Refused n; lines = [] }) h b b refl refl k.balanced;
-    placed = placed_quiet T (record { call = c; answer = Refused n; lines = [] }) h b.day b.rate b.hedges b.numbered refl (λ g. refl) refl refl k.placed;
-    sold = sold_as (record { call = c; answer = Refused n; lines = [] }) h b.day b.day b.auction b.auction b.auctions (λ _. refl) (λ _. refl) refl k.sold.stood k.sold;
+    balanced = quiet_balanced (record { call = c; answer = Err n; lines = [] }) h b b refl refl k.balanced;
+    placed = placed_quiet T (record { call = c; answer = Err n; lines = [] }) h b.day b.rate b.hedges b.numbered refl (λ g. refl) refl refl k.placed;
+    sold = sold_as (record { call = c; answer = Err n; lines = [] }) h b.day b.day b.auction b.auction b.auctions (λ _. refl) (λ _. refl) refl k.sold.stood k.sold;
   }
 
   -- a call that changes a desk only

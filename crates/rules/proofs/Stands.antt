@@ -1,5 +1,5 @@
 -- (c): the auctions of a run, and the standing one, over each call.
-use Rattle.std.proofs.Common.{◌≡◌, ℕ, suc, ◌<◌, ◌≤◌, Bool, true, false, cond, eqb, List, [], ◌∷◌, ◌++◌, length, ℤ, nat_abs, Some, None, Option, sym, refl, ap, ◌∙◌, subst, ap₂, arith}
+use Rattle.std.proofs.Common.{◌≡◌, Ok, ℕ, suc, ◌<◌, ◌≤◌, Bool, true, false, cond, eqb, List, [], ◌∷◌, ◌++◌, length, ℤ, nat_abs, Some, None, Option, sym, refl, ap, ◌∙◌, subst, ap₂, arith}
 use Rattle.std.proofs.lemmas.Bool.{ne_eqb, eq-eqb, eqb-true, both_ways, and_parts}
 use Rattle.std.proofs.ByRecursion.{All-weaker}
 use Rattle.std.specs.List.{flat_map, AllByRecursion}
@@ -7,7 +7,7 @@ use Rattle.rules.proofs.Allotment.{Sound, Sorted, entered_all, entered-sorted, e
 use Rattle.rules.specs.declared.call.Call.TheVariants.{Announce as announce, Bid as bid, Publish as publish}
 use Rattle.rules.specs.declared.auction.TicketName.{TicketName}
 use Rattle.rules.specs.Books.{bidding, sealed, Auction, same_stage, same_ticket, stands, holds, standing}
-use Rattle.rules.specs.declared.call.Answer.TheVariants.{Done, Ticket, Published}
+use Rattle.rules.specs.declared.call.Accepted.TheVariants.{Done, Ticket, Published}
 use Rattle.rules.specs.declared.auction.Terms.{Terms}
 use Rattle.rules.specs.declared.auction.Bid.{Bid}
 use Rattle.rules.specs.declared.hedge.Deal.{Deal}
@@ -61,7 +61,7 @@ sealed-stands h day o k n v t q =
     record { bids = v.bids ∙ ap (λ i. bids_of i h) e; terms = v.terms ∙ ap (λ i. terms_of i h) e; old = omega (arith, v.old); ahead = v.ahead; unspent = subst (λ (j : ℕ). AllByRecursion (λ p. ¬ (p.ticket ≡ j)) (publications h)) e v.unspent }
 
 pub sold_announce : (h : History) (day : ℕ) (o : Option Auction) (k : ℕ) (kind offer cap maturity : ℤ) → nat_abs offer ≤ 2000 → day < nat_abs maturity → Sold h day o k
-    → Sold (record { call = announce kind offer cap maturity; answer = Ticket (suc k); lines = [] } ∷ h) day (Some (record { ticket = bidding (suc k); terms = terms_given kind offer cap maturity; bids = [] })) (suc k)
+    → Sold (record { call = announce kind offer cap maturity; answer = Ok (Ticket (suc k)); lines = [] } ∷ h) day (Some (record { ticket = bidding (suc k); terms = terms_given kind offer cap maturity; bids = [] })) (suc k)
 sold_announce h day o k kind offer cap maturity most ahead s = record {
   offered = λ n. either n (eqb (suc k) n);
   taken = s.taken;
@@ -84,7 +84,7 @@ sold_announce h day o k kind offer cap maturity most ahead s = record {
     either n false = s.offered n
 
 pub sold_bid : (h : History) (day : ℕ) (o : Option Auction) (k n : ℕ) (i p m : ℤ) → holds o (bidding n) ≡ true → length (standing o).bids < 64 → Sound (bid_given i p m) → Sold h day o k
-    → Sold (record { call = bid n i p m; answer = Done; lines = [] } ∷ h) day (Some (record { ticket = bidding n; terms = (standing o).terms; bids = entered (bid_given i p m) (standing o).bids })) k
+    → Sold (record { call = bid n i p m; answer = Ok Done; lines = [] } ∷ h) day (Some (record { ticket = bidding n; terms = (standing o).terms; bids = entered (bid_given i p m) (standing o).bids })) k
 sold_bid h day o k n i p m held room sound s = record {
   offered = s.offered;
   taken = λ j. either j (eqb n j) refl;
@@ -113,8 +113,8 @@ sold_bid h day o k n i p m held room sound s = record {
     either j false e = s.taken j
 
 -- publish spends the ticket n
-pub sold_publish : (n first count : ℕ) (h : History) (day : ℕ) (o : Option Auction) (k : ℕ) → n ≤ k → Sold h day o k → Sold (record { call = publish n; answer = Published first count; lines = [] } ∷ h) day None k
-sold_publish n first count h day o k old s = record { offered = s.offered; taken = s.taken; later = s.later; spent = (old, s.spent); stood = none_stands (record { call = publish n; answer = Published first count; lines = [] } ∷ h) day None k refl }
+pub sold_publish : (n first count : ℕ) (h : History) (day : ℕ) (o : Option Auction) (k : ℕ) → n ≤ k → Sold h day o k → Sold (record { call = publish n; answer = Ok (Published first count); lines = [] } ∷ h) day None k
+sold_publish n first count h day o k old s = record { offered = s.offered; taken = s.taken; later = s.later; spent = (old, s.spent); stood = none_stands (record { call = publish n; answer = Ok (Published first count); lines = [] } ∷ h) day None k refl }
 
 -- ---- what was published stays as it was published
 joined_alike : {X Y : Type 0} (f g : X → List Y) (xs : List X) → AllByRecursion (λ x. f x ≡ g x) xs → flat_map f xs ≡ flat_map g xs
@@ -130,10 +130,10 @@ dealt-as T e h ps q = ap (flat_map (from (e ∷ h))) ps ∙ joined_alike (from (
     from : History → Publication → List Deal
     from h p = numbered_from p.first p.rate (terms_of p.ticket h) (got_of T p.ticket h)
 
-pub dealt-announce : (T : Sharing) (h : History) (day : ℕ) (o : Option Auction) (k : ℕ) (kind offer cap maturity : ℤ) → Sold h day o k → dealt T (record { call = announce kind offer cap maturity; answer = Ticket (suc k); lines = [] } ∷ h) ≡ dealt T h
-dealt-announce T h day o k kind offer cap maturity s = dealt-as T (record { call = announce kind offer cap maturity; answer = Ticket (suc k); lines = [] }) h refl
+pub dealt-announce : (T : Sharing) (h : History) (day : ℕ) (o : Option Auction) (k : ℕ) (kind offer cap maturity : ℤ) → Sold h day o k → dealt T (record { call = announce kind offer cap maturity; answer = Ok (Ticket (suc k)); lines = [] } ∷ h) ≡ dealt T h
+dealt-announce T h day o k kind offer cap maturity s = dealt-as T (record { call = announce kind offer cap maturity; answer = Ok (Ticket (suc k)); lines = [] }) h refl
     (All-weaker (λ p. p.ticket ≤ k) (λ p. _ × _) (λ p l. (ap (λ b. cond b (terms_given kind offer cap maturity) (terms_of p.ticket h)) (ne_eqb (suc k) p.ticket (λ q. omega arith)), refl)) (publications h) s.spent)
 
-pub dealt-bid : (T : Sharing) (h : History) (day : ℕ) (o : Option Auction) (k n : ℕ) (i p m : ℤ) → Stood h day o k n → dealt T (record { call = bid n i p m; answer = Done; lines = [] } ∷ h) ≡ dealt T h
-dealt-bid T h day o k n i p m v = dealt-as T (record { call = bid n i p m; answer = Done; lines = [] }) h refl
+pub dealt-bid : (T : Sharing) (h : History) (day : ℕ) (o : Option Auction) (k n : ℕ) (i p m : ℤ) → Stood h day o k n → dealt T (record { call = bid n i p m; answer = Ok Done; lines = [] } ∷ h) ≡ dealt T h
+dealt-bid T h day o k n i p m v = dealt-as T (record { call = bid n i p m; answer = Ok Done; lines = [] }) h refl
     (All-weaker (λ p. ¬ (p.ticket ≡ n)) (λ p. _ × _) (λ j l. (refl, ap (λ b. cond b (entered (bid_given i p m) (bids_of j.ticket h)) (bids_of j.ticket h)) (ne_eqb n j.ticket (λ q. l (sym q))))) (publications h) v.unspent)

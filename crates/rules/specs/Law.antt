@@ -1,5 +1,5 @@
 -- The law of the house, in words that go by a run's calls and answers. A history has its latest call first. Assumes nothing.
-use Rattle.std.specs.Prelude.{◌≡◌, ℕ, zero, suc, ◌+◌, ◌-◌, ◌*◌, ◌<◌, ◌≤◌, min, Bool, false, cond, not, ◌&&◌, List, [], ◌∷◌, ◌++◌, map, length, ℤ, pos, ◌+ℤ◌, ◌-ℤ◌, ◌*ℤ◌, neg_ℤ, ◌<ℤ◌, is_some, Some, None, filter, Option, ◌==◌, ◌≢◌, nat_eq, unsigned_abs}
+use Rattle.std.specs.Prelude.{◌≡◌, ℕ, zero, suc, ◌+◌, ◌-◌, ◌*◌, ◌<◌, ◌≤◌, min, Bool, false, cond, not, ◌&&◌, List, [], ◌∷◌, ◌++◌, map, length, ℤ, pos, ◌+ℤ◌, ◌-ℤ◌, ◌*ℤ◌, neg_ℤ, ◌<ℤ◌, is_some, Some, None, Ok, Err, filter, Option, ◌==◌, ◌≢◌, nat_eq, unsigned_abs}
 use Rattle.std.specs.List.{flat_map, AllByRecursion}
 use Rattle.terms.specs.declared.plan.Plan.{Plan}
 use Rattle.tie_rules.specs.Sharing.{Sharing}
@@ -11,8 +11,9 @@ use Rattle.rules.specs.declared.hedge.Hedge.{Hedge}
 use Rattle.rules.specs.declared.hedge.Line.{Line}
 use Rattle.rules.specs.declared.call.Call.{Call}
 use Rattle.rules.specs.declared.call.Call.TheVariants as c
-use Rattle.rules.specs.declared.call.Answer.{Answer}
-use Rattle.rules.specs.declared.call.Answer.TheVariants as a
+use Rattle.rules.specs.declared.call.Accepted.{Accepted}
+use Rattle.rules.specs.declared.call.Accepted.TheVariants as a
+use Rattle.rules.specs.Numbers.{Answer}
 use Rattle.rules.specs.Books.{Books, parties, total, sum_by, opened}
 use Rattle.terms.specs.Rounding.{penalty_of}
 use Rattle.rules.specs.Allotment.{Got, named, entered, allotted, numbered_from, sold_at, millions_of}
@@ -50,9 +51,17 @@ event_of (c.Lodge i z) n = nothing
 event_of (c.Release i z) n = nothing
 event_of (c.Terminate k) n = ended (unsigned_abs k)
 
+-- the number that an accepted call told for that, if it told one
+abbrev pub number_told : Accepted → ℕ
+number_told a.Done = 0
+number_told (a.Ticket n) = n
+number_told (a.Published n k) = n
+number_told (a.Fixed k) = 0
+number_told (a.Terminated l) = 0
+
 -- a refused call brought about nothing
 abbrev pub event : Entry → Event
-event e = elim e.answer [ a.Refused why ↦ nothing | a.Done ↦ event_of e.call 0 | a.Ticket n ↦ event_of e.call n | a.Published n k ↦ event_of e.call n | a.Fixed k ↦ event_of e.call 0 | a.Terminated l ↦ event_of e.call 0 ]
+event e = elim e.answer [ Ok x ↦ event_of e.call (number_told x) | Err why ↦ nothing ]
 
 -- the day and the rate of a fix
 abbrev pub Fixing : Type 0

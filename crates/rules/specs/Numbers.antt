@@ -1,11 +1,11 @@
 -- The numbers under which kinds and answers are told. Assumes nothing.
-use Rattle.std.specs.Prelude.{ℕ, Bool, cond, ℤ, pos, int_lt}
+use Rattle.std.specs.Prelude.{ℕ, Bool, cond, ℤ, pos, Ok, Err, Result, int_lt}
+use Rattle.terms.specs.declared.refusal.Refusal.{Refusal}
 use Rattle.terms.specs.Ranges.{within}
 use Rattle.terms.specs.Refusals.{number_of}
 use Rattle.rules.specs.declared.auction.Kind.{Kind}
 use Rattle.rules.specs.declared.auction.Kind.TheVariants.{Initial, Maturity}
-use Rattle.rules.specs.declared.call.Answer.{Answer}
-use Rattle.rules.specs.declared.call.Answer.TheVariants.{Refused, Done, Ticket, Published, Fixed, Terminated}
+use Rattle.rules.specs.declared.call.Accepted.{Accepted}
 
 -- kind 0 is an initial auction, kind 1 a maturity auction
 abbrev pub kind_number : Kind → ℕ
@@ -20,11 +20,11 @@ is_kind = within (pos 0) (pos 1)
 abbrev pub kind_of : ℤ → Kind
 kind_of k = cond (int_lt (pos 0) k) Maturity Initial
 
+-- a call answers what it accepted, or its refusal
+abbrev pub Answer : Type 0
+Answer = Result Accepted Refusal
+
 -- an accepted call is told as 0, a refused one by its refusal's number
 abbrev pub answer_number : Answer → ℕ
-answer_number (Refused why) = number_of why
-answer_number Done = 0
-answer_number (Ticket n) = 0
-answer_number (Published first count) = 0
-answer_number (Fixed lines) = 0
-answer_number (Terminated l) = 0
+answer_number (Ok accepted) = 0
+answer_number (Err why) = number_of why

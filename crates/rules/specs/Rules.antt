@@ -1,5 +1,5 @@
 -- The rules of the ten calls: for each, its refusals in the order of their tests, its answer, the lines that it tells, and the books after it. Assumes nothing.
-use Rattle.std.specs.Prelude.{ℕ, suc, ◌+◌, ◌-◌, ◌*◌, Bool, true, cond, not, ◌&&◌, ◌||◌, List, [], ◌∷◌, ◌++◌, map, length, ℤ, pos, ◌+ℤ◌, Some, None, filter, Option, ◌==◌, int_le, int_lt, nat_le, nat_lt, unsigned_abs}
+use Rattle.std.specs.Prelude.{ℕ, suc, ◌+◌, ◌-◌, ◌*◌, Bool, true, cond, not, ◌&&◌, ◌||◌, List, [], ◌∷◌, ◌++◌, map, length, ℤ, pos, ◌+ℤ◌, Some, None, Ok, Err, filter, Option, ◌==◌, int_le, int_lt, nat_le, nat_lt, unsigned_abs}
 use Rattle.terms.specs.declared.plan.Plan.{Plan}
 use Rattle.terms.specs.declared.refusal.Refusal.{Refusal}
 use Rattle.terms.specs.declared.refusal.Refusal.TheVariants.{UnknownParty, AmountOutOfRange, UnknownKind, PriceOutOfRange, NoSuchDay, WrongLength, AlreadyAdmitted, NotAdmitted, AuctionStands, WrongTicket, BidsFull, CapPassed, OfferAboveMatured, HedgePlacesFull, NumbersUsedUp, DayOutOfOrder, NoFreePosting, HedgeNotOpen, NoFixYet, CollateralOutOfBounds}
@@ -18,9 +18,8 @@ use Rattle.rules.specs.declared.hedge.Line.{Line}
 use Rattle.rules.specs.declared.hedge.Position.{Position}
 use Rattle.rules.specs.declared.call.Call.{Call}
 use Rattle.rules.specs.declared.call.Call.TheVariants as c
-use Rattle.rules.specs.declared.call.Answer.{Answer}
-use Rattle.rules.specs.declared.call.Answer.TheVariants.{Refused, Done, Ticket, Published, Fixed, Terminated}
-use Rattle.rules.specs.Numbers.{is_kind, kind_of}
+use Rattle.rules.specs.declared.call.Accepted.TheVariants.{Done, Ticket, Published, Fixed, Terminated}
+use Rattle.rules.specs.Numbers.{Answer, is_kind, kind_of}
 use Rattle.rules.specs.Books.{Books, total, institutions, bidding, sealed, stands, holds, standing, with_auction, with_desk, posted}
 use Rattle.rules.specs.Allotment.{entered, millions_of, allotted, numbered_from, sold_at}
 use Rattle.rules.specs.Settlement.{fresh, line_of, closing, pays, turned, open_ones, of_number, penalties, revalued}
@@ -74,7 +73,7 @@ first_of (l ∷ ls) = l
 
 -- a refused call answers the refusal and leaves the books
 abbrev pub judged : Option Refusal → Told → Books → Books → Told × Books
-judged (Some e) a b b' = (quietly (Refused e), b)
+judged (Some e) a b b' = (quietly (Err e), b)
 judged None a b b' = (a, b')
 
 -- the line, and the hedges after, of a termination
@@ -127,16 +126,16 @@ module _ (P : Plan) (T : Sharing) (C : Deciding) where
 
   -- an accepted call: its answer and its lines
   abbrev pub answers : Books → Call → Told
-  answers b (c.Admit i) = quietly Done
-  answers b (c.Announce k o c m) = quietly (Ticket (suc b.auctions))
-  answers b (c.Bid n i p m) = quietly Done
-  answers b (c.Seal n) = quietly (Ticket n)
-  answers b (c.Publish n) = quietly (Published (cond (length (new_deals b) == 0) 0 (suc b.numbered)) (length (new_deals b)))
-  answers b (c.Void t) = quietly Done
-  answers b (c.Fix d r room) = record { answer = Fixed (length (fix_lines (unsigned_abs d) (unsigned_abs r) b)); lines = fix_lines (unsigned_abs d) (unsigned_abs r) b }
-  answers b (c.Lodge i z) = quietly Done
-  answers b (c.Release i z) = quietly Done
-  answers b (c.Terminate n) = record { answer = Terminated (first_of (end_lines (unsigned_abs n) b)); lines = end_lines (unsigned_abs n) b }
+  answers b (c.Admit i) = quietly (Ok Done)
+  answers b (c.Announce k o c m) = quietly (Ok (Ticket (suc b.auctions)))
+  answers b (c.Bid n i p m) = quietly (Ok Done)
+  answers b (c.Seal n) = quietly (Ok (Ticket n))
+  answers b (c.Publish n) = quietly (Ok (Published (cond (length (new_deals b) == 0) 0 (suc b.numbered)) (length (new_deals b))))
+  answers b (c.Void t) = quietly (Ok Done)
+  answers b (c.Fix d r room) = record { answer = Ok (Fixed (length (fix_lines (unsigned_abs d) (unsigned_abs r) b))); lines = fix_lines (unsigned_abs d) (unsigned_abs r) b }
+  answers b (c.Lodge i z) = quietly (Ok Done)
+  answers b (c.Release i z) = quietly (Ok Done)
+  answers b (c.Terminate n) = record { answer = Ok (Terminated (first_of (end_lines (unsigned_abs n) b))); lines = end_lines (unsigned_abs n) b }
 
   -- and the books after it
   abbrev pub after : Books → Call → Books

@@ -7,7 +7,7 @@ use crate::hedge::Line;
 use terms::refusal::Refusal;
 
 // The ten calls, with any numbers. Bid and seal name a bidding ticket, publish a sealed one; fix names the room of its list.
-#[derive(Clone, Copy)]
+#[derive(Clone, Copy, PartialEq, Eq, Debug)]
 pub enum Call {
     Admit {
         institution: i64,
@@ -51,11 +51,10 @@ pub enum Call {
     },
 }
 
-// An accepted call answers nothing more, its ticket's number, the hedges published (how many, and the first number or 0),
+// What an accepted call answers: nothing more, its ticket's number, the hedges published (how many, and the first number or 0),
 // how many lines it wrote, or its one line.
-#[derive(Clone, Copy)]
-pub enum Answer {
-    Refused(Refusal),
+#[derive(Clone, Copy, PartialEq, Eq, Debug)]
+pub enum Accepted {
     Done,
     Ticket(u32),
     Published { first: u32, count: u32 },
@@ -63,18 +62,14 @@ pub enum Answer {
     Terminated(Line),
 }
 
-impl Answer {
-    // 0 for an accepted call, or the refusal's number.
-    pub fn number(self) -> u8
-        ensures { result ≡ answer_number self }
-    {
-        match self {
-            Answer::Refused(why) => why.number(),
-            Answer::Done => 0,
-            Answer::Ticket(_) => 0,
-            Answer::Published { .. } => 0,
-            Answer::Fixed { .. } => 0,
-            Answer::Terminated(_) => 0,
-        }
+pub type Answer = Result<Accepted, Refusal>;
+
+// 0 for an accepted call, or the refusal's number.
+pub fn answer_number(answer: Answer) -> u8
+    ensures { result ≡ answer_number answer }
+{
+    match answer {
+        Ok(_) => 0,
+        Err(why) => why.number(),
     }
 }
