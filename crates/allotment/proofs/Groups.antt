@@ -1,14 +1,13 @@
--- The first group of the prices, and the loop that measures it.
-use Rattle.std.proofs.Common.{◌≡◌, ℕ, suc, ◌+◌, ◌-◌, ◌<◌, ◌≤◌, Bool, true, false, cond, List, [], ◌∷◌, length, get_or, take, drop, pos, sym, refl, ap, ◌∙◌, arith}
-use lib.Signed.{lt_z}
-use Rattle.std.proofs.lemmas.List.{at_drop_more, at_drop_all}
+-- The first group of the prices, and how many bids it has.
+use Rattle.std.proofs.Common.{◌≡◌, ℕ, zero, suc, ◌<◌, ◌≤◌, Bool, true, false, cond, not, List, [], ◌∷◌, ◌++◌, length, take, drop, ℤ, sym, refl, ap, ◌∙◌, arith, length-append}
+use lib.Signed.{lt_z, le_z}
+use Rattle.std.specs.List.{IsChunkByPrefix}
+use Rattle.std.proofs.lemmas.Int.{ints}
+use Rattle.std.proofs.Math.Seq.{take-append_seam}
+use native.Mathlib.Numerals.{unary_clauses}
 use Rattle.rules.specs.declared.auction.Bid.{Bid}
 use Rattle.rules.specs.Allotment.{joined_to, prices}
 use Rattle.allotment.specs.Groups.{level_with, group_size}
-
--- a bid of nobody
-abbrev pub no_bid : Bid
-no_bid = record { institution = 0; price = pos 0; millions = 0 }
 
 -- the first group is the bids level with the first
 pub prices-first : (x : Bid) (xs : List Bid) → prices (x ∷ xs) ≡ (x ∷ take (level_with x xs) xs) ∷ prices (drop (level_with x xs) xs)
@@ -24,9 +23,25 @@ pub prices-group : (xs : List Bid) → 0 < length xs → prices xs ≡ take (gro
 prices-group [] some = absurd (omega arith)
 prices-group (x ∷ xs) some = prices-first x xs
 
-pub group_some : (xs : List Bid) → 0 < length xs → 0 < group_size xs
-group_some [] some = absurd (omega arith)
-group_some (x ∷ xs) some = omega arith
+-- neighbours at one price, the second not lower
+abbrev pub level : Bid → Bid → Bool
+level x y = le_z x.price y.price
+
+lower : (x y : ℤ) → lt_z y x ≡ not (le_z x y)
+lower x y = grind (arith, ints)
+
+level_sized : (x : Bid) (xs : List Bid) (n : ℕ) → n ≤ length xs → IsChunkByPrefix level (x ∷ xs) (suc n) → n ≡ level_with x xs
+level_sized x [] n l p = omega arith
+level_sized x (y ∷ ys) zero l p = sym (ap (λ t. cond t 0 (suc (level_with y ys))) (lower x.price y.price ∙ ap not (p.1 (omega arith) x)))
+level_sized x (y ∷ ys) (suc n) l p =
+    let rest : IsChunkByPrefix level (y ∷ ys) (suc n) = (λ k d h. simp unary_clauses (simp unary_clauses at (p.0 (suc k) d (omega arith))), λ h d. simp unary_clauses (simp unary_clauses at (p.1 (omega arith) d))) in
+    ap suc (level_sized y ys n (omega arith) rest) ∙ sym (ap (λ t. cond t 0 (suc (level_with y ys))) (lower x.price y.price ∙ ap not (p.0 0 x (omega arith))))
+
+-- the longest run of neighbours at one price is the first group
+pub group_sized : (xs : List Bid) (n : ℕ) → 0 < n → n ≤ length xs → IsChunkByPrefix level xs n → n ≡ group_size xs
+group_sized [] n some l p = absurd (omega arith)
+group_sized (x ∷ xs) zero some l p = absurd (omega arith)
+group_sized (x ∷ xs) (suc n) some l p = ap suc (level_sized x xs n (omega arith) p)
 
 level_most : (x : Bid) (xs : List Bid) → level_with x xs ≤ length xs
 level_most x [] = omega arith
@@ -40,31 +55,8 @@ pub group_most : (xs : List Bid) → group_size xs ≤ length xs
 group_most [] = omega arith
 group_most (x ∷ xs) = omega (arith, level_most x xs)
 
--- the first i bids are level, and so are those after the last of them
-abbrev pub Measured : List Bid → ℕ → Type 0
-Measured xs i = i + level_with (get_or xs (i - 1) no_bid) (drop i xs) ≡ group_size xs
-
-pub measured_start : (xs : List Bid) → 1 ≤ length xs → Measured xs 1
-measured_start [] some = absurd (omega arith)
-measured_start (x ∷ xs) some = omega arith
-
--- one bid more
-pub level_more : (xs : List Bid) (i : ℕ) → i < length xs → level_with (get_or xs (i - 1) no_bid) (drop i xs) ≡ cond (lt_z (get_or xs i no_bid).price (get_or xs (i - 1) no_bid).price) 0 (suc (level_with (get_or xs i no_bid) (drop (i + 1) xs)))
-level_more xs i h = at_drop_more (level_with (get_or xs (i - 1) no_bid)) xs i no_bid h
-
-pub level_none : (xs : List Bid) (i : ℕ) → length xs ≤ i → level_with (get_or xs (i - 1) no_bid) (drop i xs) ≡ 0
-level_none xs i h = at_drop_all (level_with (get_or xs (i - 1) no_bid)) xs i h
-
-pub measured_more : (xs : List Bid) (i : ℕ) → i < length xs → lt_z (get_or xs i no_bid).price (get_or xs (i - 1) no_bid).price ≡ false → Measured xs i → Measured xs (i + 1)
-measured_more xs i h e inv =
-    let m = level_more xs i h ∙ ap (λ t. cond t 0 (suc (level_with (get_or xs i no_bid) (drop (i + 1) xs)))) e in
-    let back : i + 1 - 1 ≡ i = omega arith in
-    rw back (omega (arith, m, inv))
-
-pub measured_lower : (xs : List Bid) (i : ℕ) → i < length xs → lt_z (get_or xs i no_bid).price (get_or xs (i - 1) no_bid).price ≡ true → Measured xs i → i ≡ group_size xs
-measured_lower xs i h e inv =
-    let m = level_more xs i h ∙ ap (λ t. cond t 0 (suc (level_with (get_or xs i no_bid) (drop (i + 1) xs)))) e in
-    omega (arith, m, inv)
-
-pub measured_all : (xs : List Bid) (i : ℕ) → length xs ≤ i → i ≤ length xs → Measured xs i → length xs ≡ group_size xs
-measured_all xs i h most inv = omega (arith, level_none xs i h, inv)
+-- the same of a run that the bids begin with
+pub group_run : (xs ys rest : List Bid) → xs ≡ ys ++ rest → 0 < length ys → IsChunkByPrefix level xs (length ys) → ys ≡ take (group_size xs) xs
+group_run xs ys rest e some p =
+    let n : length ys ≤ length xs = omega (arith, ap length e, length-append ys rest) in
+    sym (take-append_seam ys rest) ∙ ap (take (length ys)) (sym e) ∙ ap (λ m. take m xs) (group_sized xs (length ys) some n p)

@@ -1,28 +1,11 @@
--- The bids are looked at in turn, and those whose millions are in range name as many dollars as a tie rule may be asked for.
-use Rattle.std.proofs.Common.{◌≡◌, ℕ, zero, suc, ◌+◌, ◌<◌, ◌≤◌, true, false, ◌&&◌, List, [], ◌∷◌, length, get_or, take, drop, pos, sym, refl, ap, ◌∙◌, arith}
+-- Bids whose millions are in range name as many dollars as a tie rule may be asked for.
+use Rattle.std.proofs.Common.{◌≡◌, ℕ, zero, suc, ◌≤◌, true, List, [], ◌∷◌, take, drop, pos, refl, arith}
 use lib.Signed.{le_z}
 use Rattle.std.specs.List.{AllByRecursion, list_all}
-use Rattle.std.proofs.lemmas.List.{at_drop_more, at_drop_all}
 use Rattle.std.proofs.lemmas.Int.{ints}
 use Rattle.std.proofs.lemmas.Bool.{and_parts, and_from}
 use Rattle.rules.specs.declared.auction.Bid.{Bid}
 use Rattle.allotment.specs.Allotting.{in_range}
-use Rattle.allotment.proofs.Groups.{no_bid}
-
-abbrev Looked : List Bid → ℕ → Type 0
-Looked xs i = list_all in_range (drop i xs) ≡ list_all in_range xs
-
-next : (xs : List Bid) (i : ℕ) → i < length xs → list_all in_range (drop i xs) ≡ (in_range (get_or xs i no_bid) && list_all in_range (drop (i + 1) xs))
-next xs i h = at_drop_more (list_all in_range) xs i no_bid h
-
-pub looked_more : (xs : List Bid) (i : ℕ) → i < length xs → true ≡ in_range (get_or xs i no_bid) → Looked xs i → Looked xs (i + 1)
-looked_more xs i h e inv = ap (λ t. t && list_all in_range (drop (i + 1) xs)) e ∙ sym (next xs i h) ∙ inv
-
-pub looked_out : (xs : List Bid) (i : ℕ) → i < length xs → false ≡ in_range (get_or xs i no_bid) → Looked xs i → false ≡ list_all in_range xs
-looked_out xs i h e inv = ap (λ t. t && list_all in_range (drop (i + 1) xs)) e ∙ sym (next xs i h) ∙ inv
-
-pub looked_all : (xs : List Bid) (i : ℕ) → length xs ≤ i → Looked xs i → true ≡ list_all in_range xs
-looked_all xs i h inv = sym (at_drop_all (list_all in_range) xs i h) ∙ inv
 
 -- what a bid in range names
 abbrev pub Ranged : Bid → Type 0

@@ -13,11 +13,14 @@ mod check;
 mod group;
 mod serving;
 
-use crate::check::refusal;
-use crate::group::group_end;
+use crate::check::test_allotment;
+use crate::group::first_group;
 use crate::serving::serve_group;
 
-const MILLION: u32 = 1_000_000;
+// As many bids as an auction takes.
+pub const MOST_BIDS: usize = 64;
+
+pub const MILLION: u32 = 1_000_000;
 
 // Serves one price after the other.
 fn serve_all<T: TieRule>(tie_rule: &T, offer: u32, bids: &[Bid], dollars: &mut [u32])
@@ -26,9 +29,9 @@ fn serve_all<T: TieRule>(tie_rule: &T, offer: u32, bids: &[Bid], dollars: &mut [
 {
     let mut left = MILLION * offer;
     let mut start = 0;
-    while start < bids.len() {
-        let end = group_end(bids, start);
-        left = serve_group(tie_rule, &bids[start..end], left, &mut dollars[start..end]);
+    while let Some(group) = first_group(&bids[start..]) {
+        let end = start + group.len();
+        left = serve_group(tie_rule, group, left, &mut dollars[start..end]);
         start = end;
     }
 }
@@ -44,11 +47,7 @@ pub fn allot<T: TieRule>(
     ensures answer { result ≡ answered (allot_refused offer bids.now (length dollars.old)) tt }
     ensures written { dollars.new ≡ unless_refused (allot_refused offer bids.now (length dollars.old)) (dollars_of (T.TieRule.meaning tie_rule.now) offer bids.now) dollars.old }
 {
-    match refusal(offer, bids, dollars.len()) {
-        Some(why) => Err(why),
-        None => {
-            serve_all(tie_rule, offer, bids, dollars);
-            Ok(())
-        }
-    }
+    test_allotment(offer, bids, dollars.len())?;
+    serve_all(tie_rule, offer, bids, dollars);
+    Ok(())
 }

@@ -1,50 +1,30 @@
-ghost use Rattle.std.specs.Prelude.{◌≡◌, ◌-◌, ◌<◌, ◌≤◌, true, map, length, take};
+ghost use Rattle.std.specs.Prelude.{◌≡◌, ◌-◌, ◌≤◌, true, map, length};
 ghost use Rattle.std.specs.List.{list_all};
 ghost use Rattle.rules.specs.Allotment.{named, served};
 ghost use Rattle.rules.specs.Books.{total as total_of};
 ghost use Rattle.allotment.specs.Allotting.{in_range};
 ghost use Rattle.tie_rules.specs.Sharing.{is_dollars};
 
+use crate::{MILLION, MOST_BIDS};
 use rules::auction::Bid;
 use tie_rules::rule::TieRule;
 
-const MILLION: u32 = 1_000_000;
-
-// Writes the dollars that each bid names into the first places, and answers their total.
-fn name_dollars(group: &[Bid], amounts: &mut [u32]) -> u64
-    requires few { length group.now ≤ 64 }
-    requires placed { length group.now ≤ length amounts.old }
+// Writes the dollars that each bid names.
+fn name_dollars(group: &[Bid], amounts: &mut [u32])
+    requires placed { length group.now ≡ length amounts.old }
     requires ranged { list_all in_range group.now ≡ true }
-    ensures written { take (length group.now) amounts.new ≡ map named group.now }
-    ensures total { result ≡ total_of (map named group.now) }
+    ensures { amounts.new ≡ map named group.now }
 {
-    let mut total: u64 = 0;
     for (i, bid) in group.iter().enumerate() {
-        let dollars = MILLION * bid.millions;
-        amounts[i] = dollars;
-        total += u64::from(dollars);
+        amounts[i] = MILLION * bid.millions;
     }
-    total
 }
 
-fn give_nought(amounts: &[u32], dollars: &mut [u32])
-    requires { length amounts.now ≡ length dollars.old }
-    ensures { dollars.new ≡ map (λ _. 0) amounts.now }
+fn total_of(amounts: &[u32]) -> u64
+    requires { length amounts.now ≤ 64 }
+    ensures { result ≡ total_of amounts.now }
 {
-    dollars.fill(0);
-}
-
-// The tie rule does not refuse a tie.
-fn share_tie<T: TieRule>(tie_rule: &T, amounts: &[u32], left: u32, dollars: &mut [u32])
-    requires few { length amounts.now ≤ 64 }
-    requires placed { length amounts.now ≡ length dollars.old }
-    requires ranged { list_all is_dollars amounts.now ≡ true }
-    requires some { 1 ≤ left }
-    requires most { left ≤ 2000000000 }
-    requires short { left < total_of amounts.now }
-    ensures { dollars.new ≡ (T.TieRule.meaning tie_rule.now).shares amounts.now left }
-{
-    let _ = tie_rule.share(amounts, left, dollars);
+    amounts.iter().map(|amount| u64::from(*amount)).sum()
 }
 
 // Gives the bids at one price what they name if that fits; otherwise the tie rule shares what is left among them.
@@ -59,9 +39,9 @@ fn serve<T: TieRule>(tie_rule: &T, amounts: &[u32], total: u64, left: u32, dolla
     if total <= u64::from(left) {
         dollars.copy_from_slice(amounts);
     } else if left == 0 {
-        give_nought(amounts, dollars);
+        dollars.fill(0);
     } else {
-        share_tie(tie_rule, amounts, left, dollars);
+        let _ = tie_rule.share(amounts, left, dollars);
     }
 }
 
@@ -85,8 +65,10 @@ pub(crate) fn serve_group<T: TieRule>(
     ensures written { dollars.new ≡ served (T.TieRule.meaning tie_rule.now) left (map named group.now) }
     ensures rest { result ≡ left - total_of (map named group.now) }
 {
-    let mut amounts = [0; 64];
-    let total = name_dollars(group, &mut amounts);
-    serve(tie_rule, &amounts[..group.len()], total, left, dollars);
+    let mut room = [0; MOST_BIDS];
+    let amounts = &mut room[..group.len()];
+    name_dollars(group, amounts);
+    let total = total_of(amounts);
+    serve(tie_rule, amounts, total, left, dollars);
     rest_of(left, total)
 }

@@ -1,87 +1,67 @@
--- Steps of the loops over hedges.
-use Rattle.std.proofs.Common.{◌≡◌, ℕ, zero, suc, ◌+◌, ◌<◌, ◌≤◌, Bool, true, false, cond, not, ◌&&◌, eqb, List, [], ◌∷◌, map, length, get_or, take, drop, set, ℤ, pos, Some, None, filter, refl, ap, ◌∙◌, arith}
+-- The questions over hedges, as iterators answer them.
+use Rattle.std.proofs.Common.{◌≡◌, ℕ, Bool, true, false, cond, not, ◌&&◌, ◌||◌, eqb, List, [], ◌∷◌, map, length, ℤ, pos, nat_abs, Some, None, filter, sym, refl, ap, ap₂, ◌∙◌, arith}
 use lib.Signed.{lt_z}
-use Rattle.std.proofs.lemmas.List.{at_drop_more, at_drop_all}
+use Rattle.std.specs.List.{find, list_any, sum_by}
+use Rattle.std.proofs.lemmas.List.Sums.{sum-map}
+use Rattle.std.specs.Ordering.{int_eq}
+use Rattle.rules.proofs.Allotment.{sum-total}
 use Rattle.std.proofs.lemmas.Bool.{ne_eqb}
+use Rattle.std.proofs.lemmas.Int.{ints}
+use Rattle.std.proofs.lemmas.Bool.Decides.{Decides-int_eq, nat_tests}
 use Rattle.rules.specs.declared.hedge.Hedge.{Hedge}
 use Rattle.rules.specs.Books.{total}
 use Rattle.rules.specs.Rules.{ask, skipped}
-use Rattle.rules.specs.Settlement.{closing, of_number, open_ones}
-use Rattle.portfolio.specs.Fitting.{no_hedge}
+use Rattle.rules.specs.Settlement.{closing, open_ones}
 use Rattle.portfolio.specs.View.{maturing_at}
 
 -- ---- the question for a hedge
-pub ask-more : (n : ℕ) (xs : List Hedge) (i : ℕ) → i < length xs → ask n (drop i xs) ≡ cond (eqb (get_or xs i no_hedge).deal.number n) (Some (get_or xs i no_hedge)) (ask n (drop (i + 1) xs))
-ask-more n xs i h = at_drop_more (ask n) xs i no_hedge h
+pub same_number : (n : ℕ) (number : ℤ) → lt_z number (pos 0) ≡ false → int_eq (pos n) number ≡ eqb n (nat_abs number)
+same_number n number s = grind (arith, ints, nat_tests, Decides-int_eq)
 
-pub ask-all : (n : ℕ) (xs : List Hedge) (i : ℕ) → length xs ≤ i → ask n (drop i xs) ≡ None
-ask-all n xs i h = at_drop_all (ask n) xs i h
+pub below_none : (n : ℕ) (number : ℤ) → lt_z number (pos 0) ≡ true → int_eq (pos n) number ≡ false
+below_none n number s = grind (arith, ints, nat_tests, Decides-int_eq)
 
--- ---- how many are open
-open_cons : (x : Hedge) (xs : List Hedge) → length (open_ones (x ∷ xs)) ≡ cond x.live 1 0 + length (open_ones xs)
-open_cons x xs = go x.live
+none_below : (number : ℤ) (xs : List Hedge) → lt_z number (pos 0) ≡ true → find (λ x. int_eq (pos x.deal.number) number) xs ≡ None
+none_below number [] s = refl
+none_below number (x ∷ xs) s = ap (λ t. cond t (Some x) (find (λ y. int_eq (pos y.deal.number) number) xs)) (below_none x.deal.number number s) ∙ none_below number xs s
+
+found : (number : ℤ) (xs : List Hedge) → lt_z number (pos 0) ≡ false → find (λ x. int_eq (pos x.deal.number) number) xs ≡ ask (nat_abs number) xs
+found number [] s = refl
+found number (x ∷ xs) s = ap₂ (λ t r. cond t (Some x) r) (same_number x.deal.number number s) (found number xs s)
+
+pub asked : (number : ℤ) (xs : List Hedge) → find (λ x. int_eq (pos x.deal.number) number) xs ≡ cond (lt_z number (pos 0)) None (ask (nat_abs number) xs)
+asked number xs = go (lt_z number (pos 0)) (none_below number xs) (found number xs)
   where
-    go : (t : Bool) → length (cond t (x ∷ open_ones xs) (open_ones xs)) ≡ cond t 1 0 + length (open_ones xs)
-    go true = omega arith
-    go false = omega arith
-
-pub open_more : (xs : List Hedge) (i : ℕ) → i < length xs → length (open_ones (drop i xs)) ≡ cond (get_or xs i no_hedge).live 1 0 + length (open_ones (drop (i + 1) xs))
-open_more xs i h = at_drop_more (λ ys. length (open_ones ys)) xs i no_hedge h ∙ open_cons (get_or xs i no_hedge) (drop (i + 1) xs)
-
-pub open_all : (xs : List Hedge) (i : ℕ) → length xs ≤ i → length (open_ones (drop i xs)) ≡ 0
-open_all xs i h = at_drop_all (λ ys. length (open_ones ys)) xs i h
+    go : (t : Bool) → (t ≡ true → find (λ x. int_eq (pos x.deal.number) number) xs ≡ None) → (t ≡ false → find (λ x. int_eq (pos x.deal.number) number) xs ≡ ask (nat_abs number) xs) → find (λ x. int_eq (pos x.deal.number) number) xs ≡ cond t None (ask (nat_abs number) xs)
+    go true f g = f refl
+    go false f g = g refl
 
 -- ---- whether a maturity day would be passed over
-abbrev pub skips_any : ℤ → List Hedge → Bool
-skips_any day xs = not (eqb (length (skipped day xs)) 0)
+abbrev pub late : ℤ → Hedge → Bool
+late day x = x.live && lt_z (pos x.deal.maturity) day
 
-skip_cons : (day : ℤ) (x : Hedge) (xs : List Hedge) → skips_any day (x ∷ xs) ≡ cond (x.live && lt_z (pos x.deal.maturity) day) true (skips_any day xs)
-skip_cons day x xs = go x.live
+pub skips : (day : ℤ) (xs : List Hedge) → list_any (late day) xs ≡ not (eqb (length (skipped day xs)) 0)
+skips day [] = refl
+skips day (x ∷ xs) = go x.live (λ u. kept u (skips day xs))
   where
-    late : (u : Bool) → not (eqb (length (cond u (x ∷ skipped day xs) (skipped day xs))) 0) ≡ cond u true (skips_any day xs)
-    late true = ap not (ne_eqb (length (x ∷ skipped day xs)) 0 (λ e. omega arith))
-    late false = refl
+    kept : (u : Bool) → list_any (late day) xs ≡ not (eqb (length (skipped day xs)) 0) → (u || list_any (late day) xs) ≡ not (eqb (length (cond u (x ∷ skipped day xs) (skipped day xs))) 0)
+    kept true e = sym (ap not (ne_eqb (length (x ∷ skipped day xs)) 0 (λ e. omega arith)))
+    kept false e = e
 
-    go : (t : Bool) → not (eqb (length (filter (λ y. lt_z (pos y.deal.maturity) day) (cond t (x ∷ open_ones xs) (open_ones xs)))) 0) ≡ cond (t && lt_z (pos x.deal.maturity) day) true (skips_any day xs)
-    go true = late (lt_z (pos x.deal.maturity) day)
-    go false = refl
-
-pub skip_more : (day : ℤ) (xs : List Hedge) (i : ℕ) → i < length xs → skips_any day (drop i xs) ≡ cond ((get_or xs i no_hedge).live && lt_z (pos (get_or xs i no_hedge).deal.maturity) day) true (skips_any day (drop (i + 1) xs))
-skip_more day xs i h = at_drop_more (skips_any day) xs i no_hedge h ∙ skip_cons day (get_or xs i no_hedge) (drop (i + 1) xs)
-
-pub skip_all : (day : ℤ) (xs : List Hedge) (i : ℕ) → length xs ≤ i → skips_any day (drop i xs) ≡ false
-skip_all day xs i h = at_drop_all (skips_any day) xs i h
+    go : (t : Bool) → ((u : Bool) → (u || list_any (late day) xs) ≡ not (eqb (length (cond u (x ∷ skipped day xs) (skipped day xs))) 0)) → ((t && lt_z (pos x.deal.maturity) day) || list_any (late day) xs) ≡ not (eqb (length (filter (λ y. lt_z (pos y.deal.maturity) day) (cond t (x ∷ open_ones xs) (open_ones xs)))) 0)
+    go true f = f (lt_z (pos x.deal.maturity) day)
+    go false f = f false
 
 -- ---- dollars that mature
-maturing-cons : (day : ℕ) (x : Hedge) (xs : List Hedge) → maturing_at day (x ∷ xs) ≡ cond (x.live && closing day x) x.deal.dollars 0 + maturing_at day xs
-maturing-cons day x xs = go x.live
+both : (p q : Hedge → Bool) (xs : List Hedge) → filter (λ x. p x && q x) xs ≡ filter q (filter p xs)
+both p q [] = refl
+both p q (x ∷ xs) = go (p x) (both p q xs)
   where
-    shut : (u : Bool) → total (map (λ y. y.deal.dollars) (cond u (x ∷ filter (closing day) (open_ones xs)) (filter (closing day) (open_ones xs)))) ≡ cond u x.deal.dollars 0 + maturing_at day xs
-    shut true = refl
-    shut false = omega arith
+    go : (t : Bool) → filter (λ x. p x && q x) xs ≡ filter q (filter p xs) → cond (t && q x) (x ∷ filter (λ x. p x && q x) xs) (filter (λ x. p x && q x) xs) ≡ filter q (cond t (x ∷ filter p xs) (filter p xs))
+    go true e = ap (λ ys. cond (q x) (x ∷ ys) ys) e
+    go false e = e
 
-    go : (t : Bool) → total (map (λ y. y.deal.dollars) (filter (closing day) (cond t (x ∷ open_ones xs) (open_ones xs)))) ≡ cond (t && closing day x) x.deal.dollars 0 + maturing_at day xs
-    go true = shut (closing day x)
-    go false = omega arith
-
-pub maturing-more : (day : ℕ) (xs : List Hedge) (i : ℕ) → i < length xs → maturing_at day (drop i xs) ≡ cond ((get_or xs i no_hedge).live && closing day (get_or xs i no_hedge)) (get_or xs i no_hedge).deal.dollars 0 + maturing_at day (drop (i + 1) xs)
-maturing-more day xs i h = at_drop_more (maturing_at day) xs i no_hedge h ∙ maturing-cons day (get_or xs i no_hedge) (drop (i + 1) xs)
-
-pub maturing-all : (day : ℕ) (xs : List Hedge) (i : ℕ) → length xs ≤ i → maturing_at day (drop i xs) ≡ 0
-maturing-all day xs i h = at_drop_all (maturing_at day) xs i h
-
--- ---- the open hedge of a number
-pub numbered_more : (n : ℕ) (xs : List Hedge) (i : ℕ) → i < length xs → filter (of_number n) (drop i xs) ≡ cond (of_number n (get_or xs i no_hedge)) (get_or xs i no_hedge ∷ filter (of_number n) (drop (i + 1) xs)) (filter (of_number n) (drop (i + 1) xs))
-numbered_more n xs i h = at_drop_more (filter (of_number n)) xs i no_hedge h
-
-pub numbered_all : (n : ℕ) (xs : List Hedge) (i : ℕ) → length xs ≤ i → filter (of_number n) (drop i xs) ≡ []
-numbered_all n xs i h = at_drop_all (filter (of_number n)) xs i h
-
--- a write within the part that is taken, or past it
-pub take-set_within : {X : Type 0} (n : ℕ) (xs : List X) (i : ℕ) (y : X) → take n (set xs i y) ≡ set (take n xs) i y
-take-set_within zero [] i y = refl
-take-set_within zero (x ∷ xs) zero y = refl
-take-set_within zero (x ∷ xs) (suc i) y = refl
-take-set_within (suc n) [] i y = refl
-take-set_within (suc n) (x ∷ xs) zero y = refl
-take-set_within (suc n) (x ∷ xs) (suc i) y = ap (λ ys. x ∷ ys) (take-set_within n xs i y)
+pub maturing : (day : ℕ) (xs : List Hedge) → sum_by (λ x. x.deal.dollars) (filter (λ x. x.live && closing day x) xs) ≡ maturing_at day xs
+maturing day xs =
+    let ys = filter (λ x. x.live && closing day x) xs in
+    sym (sum-map (λ (x : Hedge). x.deal.dollars) ys) ∙ sum-total (map (λ x. x.deal.dollars) ys) ∙ ap (λ ys. total (map (λ x. x.deal.dollars) ys)) (both (λ x. x.live) (closing day) xs)

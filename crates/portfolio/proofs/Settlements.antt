@@ -1,17 +1,27 @@
 -- A settlement, hedge by hedge.
-use Rattle.std.proofs.Common.{◌≡◌, ℕ, ◌+◌, ◌<◌, ◌≤◌, Bool, true, false, cond, List, [], ◌∷◌, ◌++◌, map, length, get_or, take, drop, set, Some, None, filter, Option, sym, refl, ap, ◌∙◌, ap₂, arith, length-set, length-take}
+use Rattle.std.proofs.Common.{◌≡◌, ℕ, ◌+◌, ◌<◌, ◌≤◌, Bool, true, false, cond, List, [], ◌∷◌, ◌++◌, map, length, get_or, take, drop, set, Some, None, filter, Option, sym, ap, ◌∙◌, ap₂, arith, length-set, length-take}
 use Rattle.std.specs.List.{AllByRecursion}
 use Rattle.std.proofs.lemmas.List.Elements.{filter_more}
 use Rattle.std.proofs.lemmas.List.{append_assoc, append-nil, drop_more, drop-set-lt, length-map, length-append, map-append, map_more, set_at, take_more_set}
 use Rattle.conventions.specs.Deciding.{Deciding}
 use Rattle.rules.specs.declared.hedge.Hedge.{Hedge}
 use Rattle.rules.specs.declared.hedge.Line.{Line}
-use Rattle.rules.specs.Settlement.{line_of, open_ones, pays}
+use Rattle.rules.specs.Settlement.{line_of, pays}
 use Rattle.rules.proofs.Sizes.{length-kept}
 use Rattle.portfolio.specs.Fitting.{no_hedge, is_fit, is_sound, Payable}
-use Rattle.portfolio.specs.Settling.{counted, laid_over, paid_lines, all_settled_at, settled_one, with_line}
+use Rattle.portfolio.specs.Settling.{settled_one}
 use Rattle.portfolio.proofs.Sizes.{line-payable}
-use Rattle.portfolio.proofs.Soundness.{headed, fit_placed}
+use Rattle.portfolio.proofs.Soundness.{headed, sound_fit}
+
+-- lines with one more written, if there is one
+abbrev pub with_line : Option Line → ℕ → List Line → List Line
+with_line None count lines = lines
+with_line (Some l) count lines = set lines count l
+
+-- how many are written then
+abbrev pub counted : Option Line → ℕ → ℕ
+counted None count = count
+counted (Some l) count = count + 1
 
 no_line : Line
 no_line = line_of 0 no_hedge
@@ -28,9 +38,6 @@ module _ (C : Deciding) (day r : ℕ) where
     pub rest : drop i hs' ≡ drop i hs
     pub told : ls' ≡ lines_of (take i hs) ++ drop w ls
     pub count : w ≡ length (filter (pays C day r) (take i hs))
-
-  pub settling_start : (hs : List Hedge) (ls : List Line) → Settling hs hs ls ls 0 0
-  settling_start hs ls = record { long = refl; done = refl; rest = refl; told = refl; count = refl }
 
   -- no more lines than hedges so far
   pub settling_few : (hs : List Hedge) (i w : ℕ) → w ≡ length (filter (pays C day r) (take i hs)) → w ≤ i
@@ -75,30 +82,12 @@ module _ (C : Deciding) (day r : ℕ) where
       both = told_more (take i hs) (get_or hs i no_hedge) ls ls' w o (pays C day r (get_or hs i no_hedge)) (omega (arith, settling_few hs i w s.count)) s.count s.told (f ∙ ap (λ (x : Hedge). cond (pays C day r x) (Some (line_of r x)) None) same)
 
   -- the next hedge is as it was, and so it is fit
-  pub settling_fit : (high n : ℕ) (hs hs' : List Hedge) (ls ls' : List Line) (i w : ℕ) → Settling hs hs' ls ls' i w → i < n → n ≤ length hs → is_sound 0 high (take n hs) ≡ true → is_fit (get_or hs' i no_hedge) ≡ true
-  settling_fit high n hs hs' ls ls' i w s l room h =
-      let m : i < length hs = omega arith in
-      let m' : i < length hs' = omega (arith, s.long) in
-      let p = sym (drop_more hs' i no_hedge m') ∙ s.rest ∙ drop_more hs i no_hedge m in
+  pub settling_fit : (high : ℕ) (hs hs' : List Hedge) (ls ls' : List Line) (i w : ℕ) → Settling hs hs' ls ls' i w → i < length hs → is_sound 0 high hs ≡ true → is_fit (get_or hs' i no_hedge) ≡ true
+  settling_fit high hs hs' ls ls' i w s l h =
+      let m : i < length hs' = omega (arith, s.long) in
+      let p = sym (drop_more hs' i no_hedge m) ∙ s.rest ∙ drop_more hs i no_hedge l in
       let same : get_or hs' i no_hedge ≡ get_or hs i no_hedge = cc in
-      ap is_fit same ∙ fit_placed high n hs i l room h
-
-  -- the open ones of xs were kept, and then settled
-  pub record Passed (n w : ℕ) (xs hs hs' : List Hedge) (ls ls' : List Line) : Type 0 where
-    pub kept : take n hs ≡ open_ones xs
-    pub turned : take n hs' ≡ map (settled_one C day r) (take n hs)
-    pub count : w ≡ length (filter (pays C day r) (take n hs))
-    pub told : ls' ≡ lines_of (take n hs) ++ drop w ls
-
-  module _ (n w : ℕ) (xs hs hs' : List Hedge) (ls ls' : List Line) (p : Passed n w xs hs hs' ls ls') where
-    pub passed_hedges : take n hs' ≡ all_settled_at C day r xs
-    passed_hedges = p.turned ∙ ap (map (settled_one C day r)) p.kept
-
-    pub passed_count : w ≡ length (paid_lines C day r xs)
-    passed_count = p.count ∙ ap (λ (ys : List Hedge). length (filter (pays C day r) ys)) p.kept ∙ sym (length-map (filter (pays C day r) (open_ones xs)) (line_of r))
-
-    pub passed_lines : ls' ≡ laid_over (paid_lines C day r xs) ls
-    passed_lines = p.told ∙ ap₂ (λ (ys : List Hedge) (k : ℕ). lines_of ys ++ drop k ls) p.kept passed_count
+      ap is_fit same ∙ sound_fit 0 high hs i l h
 
 -- the lines of sound hedges can be posted
 pub payable_lines : (r low high : ℕ) (xs : List Hedge) → r ≤ 999999 → is_sound low high xs ≡ true → AllByRecursion Payable (map (line_of r) xs)

@@ -1,7 +1,7 @@
 -- Bounds: of a fit hedge's worth, of its line, and of sums of worths.
 use Rattle.std.proofs.Common.{◌≡◌, ℕ, ◌+◌, ◌*◌, ◌<◌, ◌≤◌, Bool, true, false, cond, ◌&&◌, eqb, leb, List, ◌∷◌, length, get_or, drop, ℤ, pos, ◌+ℤ◌, nat_abs, filter, sym, refl, ap, ◌∙◌, subst, arith, w64, to_z, of_z}
 use Rattle.std.proofs.lemmas.Int.{ints}
-use Rattle.std.proofs.lemmas.List.{at_drop_more, at_drop_all}
+use Rattle.std.proofs.lemmas.List.{at_drop_more}
 use Rattle.std.proofs.lemmas.Bool.{and_parts, leb-true}
 use Rattle.rules.specs.declared.hedge.Hedge.{Hedge}
 use Rattle.rules.specs.Books.{sum_by}
@@ -39,9 +39,6 @@ value_cons r i x xs = go (x.live && eqb x.deal.institution i)
 pub value_more : (r i : ℕ) (xs : List Hedge) (k : ℕ) → k < length xs → value_of r (drop k xs) i ≡ cond ((get_or xs k no_hedge).live && eqb (get_or xs k no_hedge).deal.institution i) (worth r (get_or xs k no_hedge)) (pos 0) +ℤ value_of r (drop (k + 1) xs) i
 value_more r i xs k h = at_drop_more (λ ys. value_of r ys i) xs k no_hedge h ∙ value_cons r i (get_or xs k no_hedge) (drop (k + 1) xs)
 
-pub value_all : (r i : ℕ) (xs : List Hedge) (k : ℕ) → length xs ≤ k → value_of r (drop k xs) i ≡ pos 0
-value_all r i xs k h = at_drop_all (λ ys. value_of r ys i) xs k h
-
 -- how far a sum of worths has come
 pub record Summed (r i : ℕ) (xs : List Hedge) (k : ℕ) (sum : ℤ) : Type 0 where
   pub whole : sum +ℤ value_of r (drop k xs) i ≡ value_of r xs i
@@ -62,9 +59,3 @@ module _ (r i : ℕ) (xs : List Hedge) (k : ℕ) (sum w : ℤ) (l : k < length x
   -- one hedge more, as 64 bits hold the sum
   pub summed_more : Summed r i xs (k + 1) (to_z w64 (of_z w64 (sum +ℤ to_z w64 (of_z w64 w))))
   summed_more = let p = inv.small in let e : to_z w64 (of_z w64 (sum +ℤ to_z w64 (of_z w64 w))) ≡ sum +ℤ w = omega (arith, ints) in subst (Summed r i xs (k + 1)) (sym e) plain
-
-pub summed_all : (r i : ℕ) (xs : List Hedge) (k : ℕ) (sum : ℤ) → length xs ≤ k → Summed r i xs k sum → sum ≡ value_of r xs i
-summed_all r i xs k sum l inv = go sum (value_of r (drop k xs) i) (value_of r xs i) (value_all r i xs k l) inv.whole
-  where
-    go : (a c v : ℤ) → c ≡ pos 0 → a +ℤ c ≡ v → a ≡ v
-    go a c v p q = omega (arith, ints)

@@ -1,11 +1,11 @@
 -- What keeps the hedges on places sound.
 use Rattle.std.proofs.Common.{◌≡◌, ℕ, zero, suc, ◌+◌, ◌<◌, ◌≤◌, Bool, true, false, cond, not, ◌&&◌, eqb, ltb, leb, List, [], ◌∷◌, ◌++◌, map, length, get_or, take, set, filter as kept_by, sym, refl, ap, ◌∙◌, ap₂, le_of_suc-le-suc, not-suc-le-zero, arith, length-take}
+use Rattle.std.proofs.Math.Seq.{take-set-lt}
 use Rattle.std.proofs.lemmas.List.{take_more_set, get_or-take}
 use Rattle.std.proofs.lemmas.Bool.{and_parts, and_from, and_right, ltb-true, leb-true, eqb-true, lt-ltb, le-leb, ne_eqb, cond-true, cond-false}
 use Rattle.rules.specs.declared.hedge.Hedge.{Hedge}
 use Rattle.rules.specs.Settlement.{turned, of_number}
 use Rattle.portfolio.specs.Fitting.{is_fit, is_sound, no_hedge}
-use Rattle.portfolio.proofs.Lists.{take-set_within}
 use Rattle.portfolio.proofs.Sizes.{fitting}
 
 pub fit_from : (x : Hedge) → (1 ≤ x.deal.institution) × (x.deal.institution ≤ 16) × (x.deal.dollars ≤ 2000000000) × (x.settled ≤ 999999) → is_fit x ≡ true
@@ -137,7 +137,7 @@ module _ (high n : ℕ) (hs : List Hedge) (i : ℕ) (l : i < n) (room : n ≤ le
 
   pub sound_written : (paid shut : Bool) (day r : ℕ) (y : Hedge) → r ≤ 999999 → y ≡ turned paid shut day r (get_or hs i no_hedge) → is_sound 0 high (take n (set hs i y)) ≡ true
   sound_written paid shut day r y q e =
-      ap (is_sound 0 high) (take-set_within n hs i y ∙ ap (set (take n hs) i) (e ∙ ap (turned paid shut day r) (sym (get_or-take n hs i no_hedge l))))
+      ap (is_sound 0 high) (take-set-lt n hs i y l ∙ ap (set (take n hs) i) (e ∙ ap (turned paid shut day r) (sym (get_or-take n hs i no_hedge l))))
       ∙ sound_set paid shut day r 0 high (take n hs) i q h
 
   at_place : (m : ℕ) → of_number m (get_or hs i no_hedge) ≡ true → of_number m (get_or (take n hs) i no_hedge) ≡ true
@@ -149,5 +149,5 @@ module _ (high n : ℕ) (hs : List Hedge) (i : ℕ) (l : i < n) (room : n ≤ le
 
   pub ended_at : (m day r : ℕ) (y : Hedge) → of_number m (get_or hs i no_hedge) ≡ true → y ≡ turned true true day r (get_or hs i no_hedge) → take n (set hs i y) ≡ map (ended m day r) (take n hs)
   ended_at m day r y o e =
-      take-set_within n hs i y ∙ ap (set (take n hs) i) (e ∙ ap (turned true true day r) (sym (get_or-take n hs i no_hedge l)))
+      take-set-lt n hs i y l ∙ ap (set (take n hs) i) (e ∙ ap (turned true true day r) (sym (get_or-take n hs i no_hedge l)))
       ∙ sym (ended-alone m day r 0 high (take n hs) i within h (at_place m o)).1

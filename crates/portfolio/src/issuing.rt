@@ -1,39 +1,40 @@
-ghost use Rattle.std.specs.Prelude.{◌≡◌, suc, ◌<◌, ◌≤◌, true, [], ◌∷◌, ◌++◌, IfNone};
+ghost use Rattle.std.specs.Prelude.{◌≡◌, suc, ◌<◌, ◌≤◌, true, [], ◌∷◌, ◌++◌, OnOk};
 ghost use Rattle.terms.specs.Refusals.{first, answered, unless_refused};
 ghost use Rattle.rules.specs.Settlement.{fresh};
 ghost use Rattle.portfolio.specs.Issuing.{issue_tests, next_deal};
 ghost use Rattle.portfolio.specs.View.{placed_of};
 
-use crate::portfolio::Portfolio;
+use crate::portfolio::{MOST_HEDGES, MOST_NUMBERS, Portfolio};
 use rules::hedge::{Deal, Hedge};
-use terms::range::INSTITUTIONS;
+use terms::range::{INSTITUTIONS, Range};
 use terms::rate::Rate;
 use terms::refusal::Refusal;
 
-const MOST_DOLLARS: u32 = 2_000_000_000;
-
-const MOST_HEDGES: usize = 128;
-
-const MOST_NUMBERS: u32 = 100_000;
+// Dollars of one hedge.
+const DOLLARS: Range = Range {
+    least: 1,
+    most: 2_000_000_000,
+};
 
 impl Portfolio {
-    fn issue_refusal(&self, institution: u32, dollars: u32) -> Option<Refusal>
-        ensures number { result ≡ first (issue_tests institution dollars self.now) }
-        ensures passed { IfNone result ((1 ≤ institution) × (institution ≤ 16) × (dollars ≤ 2000000000) × (self.now.placed < 128) × (self.now.numbered < 100000)) }
+    // Tests an issue, in the order of its refusals.
+    fn test_issue(&self, institution: u32, dollars: u32) -> Result<(), Refusal>
+        ensures answer { result ≡ answered (first (issue_tests institution dollars self.now)) tt }
+        ensures passed { OnOk result ((1 ≤ institution) × (institution ≤ 16) × (dollars ≤ 2000000000) × (self.now.placed < 128) × (self.now.numbered < 100000)) }
     {
-        if !INSTITUTIONS.has(institution as i64) {
-            return Some(Refusal::UnknownParty);
+        if !INSTITUTIONS.has(i64::from(institution)) {
+            return Err(Refusal::UnknownParty);
         }
-        if dollars < 1 || dollars > MOST_DOLLARS {
-            return Some(Refusal::AmountOutOfRange);
+        if !DOLLARS.has(i64::from(dollars)) {
+            return Err(Refusal::AmountOutOfRange);
         }
         if self.placed >= MOST_HEDGES {
-            return Some(Refusal::HedgePlacesFull);
+            return Err(Refusal::HedgePlacesFull);
         }
         if self.numbered >= MOST_NUMBERS {
-            return Some(Refusal::NumbersUsedUp);
+            return Err(Refusal::NumbersUsedUp);
         }
-        None
+        Ok(())
     }
 
     // Puts a hedge with the next number on the first free place.
@@ -68,9 +69,7 @@ impl Portfolio {
         ensures hedges { placed_of self.new ≡ unless_refused (first (issue_tests institution dollars self.old)) (placed_of self.old ++ (fresh day (next_deal institution dollars assigned.units maturity self.old) ∷ [])) (placed_of self.old) }
         ensures numbered { self.new.numbered ≡ unless_refused (first (issue_tests institution dollars self.old)) (suc self.old.numbered) self.old.numbered }
     {
-        if let Some(why) = self.issue_refusal(institution, dollars) {
-            return Err(why);
-        }
+        self.test_issue(institution, dollars)?;
         let number = self.numbered + 1;
         self.place(
             day,

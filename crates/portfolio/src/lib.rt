@@ -2,6 +2,8 @@
 #![tactic(auto)]
 
 pub mod ending;
+mod fit;
+mod fixing;
 pub mod issuing;
 pub mod opening;
 pub mod portfolio;

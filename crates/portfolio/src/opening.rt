@@ -1,21 +1,8 @@
 ghost use Rattle.std.specs.Prelude.{◌≡◌, [], length};
 ghost use Rattle.portfolio.specs.View.{placed_of};
 
-use crate::portfolio::Portfolio;
-use rules::hedge::{Deal, Hedge};
-
-const NO_HEDGE: Hedge = Hedge {
-    deal: Deal {
-        number: 0,
-        institution: 0,
-        dollars: 0,
-        assigned: 0,
-        maturity: 0,
-    },
-    settled: 0,
-    since: 0,
-    live: false,
-};
+use crate::portfolio::{MOST_HEDGES, Portfolio};
+use rules::hedge::Hedge;
 
 impl Portfolio {
     // No hedge on any place, and no number given.
@@ -24,7 +11,7 @@ impl Portfolio {
         ensures numbered { result.numbered ≡ 0 }
     {
         Portfolio {
-            hedges: [NO_HEDGE; 128],
+            hedges: [Hedge::default(); MOST_HEDGES],
             placed: 0,
             numbered: 0,
         }

@@ -1,31 +1,34 @@
-use Rattle.std.proofs.Common.{◌≡◌, ◌-◌, length, drop, arith}
-use Rattle.std.proofs.lemmas.List.{length-take, length-drop}
+use Rattle.std.proofs.Common.{◌≡◌, ◌+◌, ◌-◌, List, length, take, drop, ap, ◌∙◌, arith}
+use Rattle.std.specs.List.{list_all}
+use Rattle.std.proofs.lemmas.List.{take_rest, length-take, length-drop}
+use Rattle.rules.specs.declared.auction.Bid.{Bid}
+use Rattle.allotment.specs.Allotting.{in_range}
+use Rattle.allotment.specs.Groups.{group_size}
 use Rattle.allotment.proofs.Ranges.{range_take, range_drop}
-use Rattle.allotment.proofs.Turns.{serving_start, serving_more, serving_all}
+use Rattle.allotment.proofs.Turns.{serving_more}
 use Rattle.allotment.proofs.serve_all.Goals as goal
 
-pub loop-start-init : goal.loop-start-init
-loop-start-init g c = serving_start (g.T.TieRule.meaning c.args.tie_rule.now) c.args.offer c.args.bids.now c.args.dollars.now c.requires.most
+-- the group among the bids from start on
+group : (bids ys : List Bid) (start : _) → ys ≡ take (group_size (take (length bids - start) (drop start bids))) (take (length bids - start) (drop start bids)) → ys ≡ take (group_size (drop start bids)) (drop start bids)
+group bids ys start e = e ∙ ap (λ xs. take (group_size xs) xs) (take_rest bids start)
 
-pub serve_group-left-requires : goal.serve_group-left-requires
-serve_group-left-requires g c =
+pub serve_group-left-requires-clause-ranged : goal.serve_group-left-requires-clause-ranged
+serve_group-left-requires-clause-ranged g c =
     let bids = c.args.bids.now in
-    let start = c.loop-start.start in
-    let size = c.group_end-end.result - start in
-    let a = length-take size (drop start bids) in
-    let b = length-drop start bids in
-    let d = length-take size (drop start c.loop-start.dollars) in
-    let e = length-drop start c.loop-start.dollars in
-    record { few = omega (arith, c.requires.few); placed = omega (arith, c.requires.placed); ranged = range_take size (drop start bids) (range_drop start bids c.requires.ranged); most = c.loop-start.invariant.most }
+    let rest = drop c.loop-group.start bids in
+    ap (list_all in_range) (group bids c.in-Some.group.now c.loop-group.start c.in-Some.ensures.0) ∙ range_take (group_size rest) rest (range_drop c.loop-group.start bids c.requires.ranged)
 
-pub loop-start-preserved : goal.loop-start-preserved
-loop-start-preserved g c =
-    let size = c.group_end-end.result - c.loop-start.start in
-    let d = length-take size (drop c.loop-start.start c.loop-start.dollars) in
-    let e = length-drop c.loop-start.start c.loop-start.dollars in
-    let n = c.group_end-end.ensures.within in
-    let long : length c.serve_group-left.new.dollars ≡ size = omega (arith, c.requires.placed, c.serve_group-left.auto.dollars) in
-    serving_more (g.T.TieRule.meaning c.args.tie_rule.now) c.args.offer c.args.bids.now c.loop-start.start c.loop-start.left c.group_end-end.result c.serve_group-left.result c.loop-start.dollars c.serve_group-left.new.dollars (length c.args.dollars.now) c.requires c.loop-start.auto.dollars c.loop-start-test.true c.group_end-end.ensures.value c.serve_group-left.ensures.written c.serve_group-left.ensures.rest long c.loop-start.invariant
+pub loop-group-smaller : goal.loop-group-smaller
+loop-group-smaller g c =
+    let bids = c.args.bids.now in
+    let rest = drop c.loop-group.start bids in
+    let e = group bids c.in-Some.group.now c.loop-group.start c.in-Some.ensures.0 in
+    omega (arith, c.in-Some.ensures.1, ap length e, length-take (group_size rest) rest, length-drop c.loop-group.start bids)
 
-pub returns : goal.returns
-returns g c = serving_all (g.T.TieRule.meaning c.args.tie_rule.now) c.args.offer c.args.bids.now c.loop-start.start c.loop-start.left c.loop-start.dollars (omega (arith, c.requires.placed)) c.loop-start-test.false c.loop-start.invariant
+pub loop-group-preserved : goal.loop-group-preserved
+loop-group-preserved g c =
+    let bids = c.args.bids.now in
+    let rest = drop c.loop-group.start bids in
+    let e = group bids c.in-Some.group.now c.loop-group.start c.in-Some.ensures.0 in
+    let long : length c.serve_group-left.new.dollars ≡ length c.in-Some.group.now = omega (arith, c.requires.placed, c.serve_group-left.auto.dollars, length-take (c.loop-group.start + length c.in-Some.group.now - c.loop-group.start) (drop c.loop-group.start c.loop-group.dollars), length-drop c.loop-group.start c.loop-group.dollars, ap length e, length-take (group_size rest) rest, length-drop c.loop-group.start bids) in
+    serving_more (g.T.TieRule.meaning c.args.tie_rule.now) c.args.offer bids c.loop-group.start c.loop-group.left c.serve_group-left.result c.in-Some.group.now c.loop-group.dollars c.serve_group-left.new.dollars (length c.args.dollars.now) c.requires c.loop-group.auto.dollars e c.in-Some.ensures.1 c.serve_group-left.ensures.written c.serve_group-left.ensures.rest long c.loop-group.invariant

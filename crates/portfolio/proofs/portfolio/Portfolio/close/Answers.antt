@@ -1,4 +1,4 @@
-use Rattle.std.proofs.Common.{◌≤◌, true, [], ◌∷◌, map, length, sym, refl, ap, ◌∙◌, arith, length-set}
+use Rattle.std.proofs.Common.{◌≤◌, true, [], ◌∷◌, map, length, sym, ap, ◌∙◌, arith, length-set}
 use Rattle.rules.specs.declared.hedge.Line.{Line}
 use Rattle.rules.specs.Settlement.{line_of}
 use Rattle.portfolio.proofs.Soundness.{fit_placed, sound_written, alone_at, ended_at}
@@ -14,15 +14,16 @@ pub invariant_of-self : goal.invariant_of-self
 invariant_of-self c =
     let p = c.args.self.now in
     let room : p.placed ≤ length p.hedges = omega arith in
-    record { sized = (simp length-set p.sized.0, p.sized.1, p.sized.2); sound = sound_written p.numbered p.placed p.hedges c.args.place c.requires room p.sound true true c.args.day c.args.rate.units _ c.args.rate.ok.1 c.end_one.ensures.hedge }
+    record { sized = (simp length-set p.sized.0, p.sized.1, p.sized.2); sound = sound_written p.numbered p.placed p.hedges c.args.place c.requires room p.sound true true c.args.fixing.day c.args.fixing.rate.units _ c.args.fixing.rate.ok.1 c.end_one.ensures.hedge }
 
-pub returns : goal.returns
-returns c =
+pub returns-clause-line : goal.returns-clause-line
+returns-clause-line c =
     let p = c.args.self.now in
     let room : p.placed ≤ length p.hedges = omega arith in
-    record {
-      payable = c.end_one.ensures.payable;
-      line = λ n o. ap (map (line_of c.args.rate.units)) (alone_at p.numbered p.placed p.hedges c.args.place c.requires room p.sound n o) ∙ ap (λ (l : Line). l ∷ []) (sym c.end_one.ensures.line);
-      hedges = λ n o. ended_at p.numbered p.placed p.hedges c.args.place c.requires room p.sound n c.args.day c.args.rate.units _ o c.end_one.ensures.hedge;
-      numbered = refl;
-    }
+    λ n o. ap (map (line_of c.args.fixing.rate.units)) (alone_at p.numbered p.placed p.hedges c.args.place c.requires room p.sound n o) ∙ ap (λ (l : Line). l ∷ []) (sym c.end_one.ensures.line)
+
+pub returns-clause-hedges : goal.returns-clause-hedges
+returns-clause-hedges c =
+    let p = c.args.self.now in
+    let room : p.placed ≤ length p.hedges = omega arith in
+    λ n o. ended_at p.numbered p.placed p.hedges c.args.place c.requires room p.sound n c.args.fixing.day c.args.fixing.rate.units _ o c.end_one.ensures.hedge

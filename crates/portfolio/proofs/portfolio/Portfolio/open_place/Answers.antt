@@ -1,15 +1,14 @@
-use Rattle.std.proofs.Common.{◌≡◌, ℕ, ◌-◌, false, take, pos, nat_abs, ap, arith, w64, to_z, of_z}
-use lib.Signed.{lt_z}
-use Rattle.std.proofs.lemmas.Int.{ints, to_z-of_z}
-use Rattle.portfolio.proofs.Endings.{open_answer_by}
+use Rattle.std.proofs.Common.{◌≡◌, ◌∙◌, true, false, rules}
+use borrow.Author.Tests.{tests}
+use Rattle.std.proofs.lemmas.Iterator.{YieldsList-from_slice, IsFirst-from_position}
+use Rattle.rules.specs.declared.hedge.Hedge.{Hedge}
+use Rattle.portfolio.specs.View.{placed_of}
+use Rattle.portfolio.proofs.Endings.{open_of, open_answer}
 use Rattle.portfolio.proofs.portfolio.Portfolio.open_place.Goals as goal
 
 pub returns : goal.returns
 returns c =
     let n = c.args.number in
     let p = c.args.self.now in
-    let f = c.ranges.number in
-    let s : lt_z n (pos 0) ≡ false = simp to_z-of_z at c.if-number-lt0.false in
-    let e : nat_abs (to_z w64 (of_z w64 n)) ≡ nat_abs n = grind (arith, ints) in
-    let all : p.placed - 0 ≡ p.placed = omega arith in
-    open_answer_by n p c.find_open.result (nat_abs (to_z w64 (of_z w64 n))) (take (p.placed - 0) p.hedges) s e (ap (λ (k : ℕ). take k p.hedges) all) c.find_open.ensures
+    open_answer n p c.position.result
+    (IsFirst-from_position _ _ c.position.result (λ (x : Hedge). open_of n x ≡ true) (λ (x : Hedge). open_of n x ≡ false) c.position.ensures.ran (YieldsList-from_slice (placed_of p) (c.iter.ensures.rest ∙ c.on_places.ensures.placed)) (λ x q k. search (rules, tests)) (λ x q k. search (rules, tests)))

@@ -1,5 +1,4 @@
-use Rattle.std.proofs.Common.{◌<◌, length, refl, arith, length-set}
-use Rattle.std.proofs.lemmas.List.{take_more_set}
+use Rattle.std.proofs.Common.{◌<◌, length, arith, length-set}
 use Rattle.rules.specs.Settlement.{fresh}
 use Rattle.portfolio.proofs.Soundness.{sound_placed, fit_from}
 use Rattle.portfolio.proofs.portfolio.Portfolio.place.Goals as goal
@@ -11,9 +10,3 @@ invariant_of-self c =
     let l : p.placed < length p.hedges = omega arith in
     let a : p.numbered < c.args.deal.number = omega arith in
     record { sized = (simp length-set p.sized.0, omega arith, omega arith); sound = sound_placed p.numbered p.placed p.hedges x l p.sound a (fit_from x c.requires.fit) }
-
-pub returns : goal.returns
-returns c =
-    let p = c.args.self.now in
-    let l : p.placed < length p.hedges = omega arith in
-    record { hedges = take_more_set p.hedges p.placed (fresh c.args.day c.args.deal) l; numbered = refl }
