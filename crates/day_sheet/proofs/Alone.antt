@@ -101,29 +101,18 @@ read_es (e ∷ es) sheet s = refl
 pub one_list : OneList
 one_list sheet es fs s t = sym (read_es es sheet s) ∙ (reads_alone sheet None None (read_whole es sheet s) (read_whole fs sheet t)).0 ∙ read_es fs sheet t
 
-none_is_some : (s : Stop) → ◌≡◌ {A = Option Stop} None (Some s) → ⊥
-none_is_some s e = let z : ◌≡◌ {A = ℕ} 0 1 = cc in omega arith
-
-stop_in : Option Stop → Stop → Stop
-stop_in None d = d
-stop_in (Some s) d = s
-
-same_stop : (s t : Stop) → ◌≡◌ {A = Option Stop} (Some s) (Some t) → s ≡ t
-unfolding stop_in
-same_stop s t e = ap (λ o. stop_in o s) e
-
 pub one-verdict : OneVerdict
 unfolding read_fault
 one-verdict sheet (Ok m) (Ok n) (es, s, a) (fs, t, b) = ap (λ k. Ok k) (a ∙ ap length (one_list sheet es fs s t) ∙ sym b)
 one-verdict sheet (Ok m) (Err f) (es, s, a) (inl (long, is)) = absurd (omega (arith, s.size))
-one-verdict sheet (Ok m) (Err f) (es, s, a) (inr (fs, t)) = absurd (none_is_some t.stop (reads_alone sheet None (Some t.stop) (read_whole es sheet s) (read_fault fs sheet f t)).1)
+one-verdict sheet (Ok m) (Err f) (es, s, a) (inr (fs, t)) = cc ((reads_alone sheet None (Some t.stop) (read_whole es sheet s) (read_fault fs sheet f t)).1)
 one-verdict sheet (Err f) (Ok n) (inl (long, is)) (fs, t, b) = absurd (omega (arith, t.size))
-one-verdict sheet (Err f) (Ok n) (inr (es, s)) (fs, t, b) = absurd (none_is_some s.stop (sym (reads_alone sheet (Some s.stop) None (read_fault es sheet f s) (read_whole fs sheet t)).1))
+one-verdict sheet (Err f) (Ok n) (inr (es, s)) (fs, t, b) = cc ((reads_alone sheet (Some s.stop) None (read_fault es sheet f s) (read_whole fs sheet t)).1)
 one-verdict sheet (Err f) (Err g) (inl (long, is)) (inl (long', is')) = ap (λ x. Err x) (is ∙ sym is')
 one-verdict sheet (Err f) (Err g) (inl (long, is)) (inr (fs, t)) = absurd (omega (arith, t.size))
 one-verdict sheet (Err f) (Err g) (inr (es, s)) (inl (long, is)) = absurd (omega (arith, s.size))
 one-verdict sheet (Err f) (Err g) (inr (es, s)) (inr (fs, t)) =
     let r = reads_alone sheet (Some s.stop) (Some t.stop) (read_fault es sheet f s) (read_fault fs sheet g t) in
     let e : es ≡ fs = r.0 in
-    let same = same_stop s.stop t.stop r.1 in
+    let same : s.stop ≡ t.stop = cc (r.1) in
     ap (λ x. Err x) (s.told ∙ ap (λ l. fault_of (length l + 1) (length (flat_map spell l)) s.stop) e ∙ ap (fault_of (length fs + 1) (length (flat_map spell fs))) same ∙ sym t.told)

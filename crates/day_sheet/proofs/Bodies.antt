@@ -1,7 +1,8 @@
 -- A record's fields: the first fault, and the record read off them. Assumes nothing.
-use Rattle.std.proofs.Common.{◌≡◌, ℕ, ◌+◌, ◌-◌, ◌≤◌, List, [], ◌∷◌, ◌++◌, map, length, get_or, take, drop, ℤ, pos, ◌≤ℤ◌, Some, Err, sym, refl, ap, ◌∙◌, subst, arith}
+use Rattle.std.proofs.Common.{◌≡◌, ℕ, ◌+◌, ◌-◌, ◌≤◌, List, [], ◌∷◌, ◌++◌, map, length, get_or, take, drop, ℤ, pos, ◌≤ℤ◌, Err, sym, refl, ap, ◌∙◌, subst, arith}
 use Rattle.std.specs.List.{flat_map, AllByRecursion}
 use Rattle.std.proofs.lemmas.List.{append_assoc, length-append, length-drop, length-map, length-take-le, take_rest}
+use Rattle.std.proofs.lemmas.Grind.{flat_map-append}
 use Rattle.std.proofs.ByRecursion.{All-append}
 use Rattle.std.proofs.lemmas.Int.{ints}
 use Rattle.day_sheet.specs.declared.letter.Letter.{Letter}
@@ -21,10 +22,6 @@ use Rattle.day_sheet.specs.Fields.{Spelt, ReadOff, NumbersFrom, RunFrom, EndFaul
 use Rattle.day_sheet.proofs.Spelling.{groups-some, one-spelling}
 use Rattle.day_sheet.specs.Holdings.{letter_of, numbers_of, record_tail, Says, BorrowsTail, ReadAs}
 
-pub joined_append : (ms ns : List ℕ) → flat_map groups (ms ++ ns) ≡ flat_map groups ms ++ flat_map groups ns
-joined_append [] ns = refl
-joined_append (m ∷ ms) ns = ap (λ bs. groups m ++ bs) (joined_append ms ns) ∙ sym (append_assoc (groups m) (flat_map groups ms) (flat_map groups ns))
-
 pub fault_of_numbers : (l : Letter) (body : List ℕ) (s : Stop) → NumbersFrom body (numbers_in l) (Err s) → FieldsFault l body s
 fault_of_numbers l body stop.Record (ns, few, short, e) = missing ns short e few
 fault_of_numbers l body (stop.Number at) (ns, few, s, b) =
@@ -40,7 +37,7 @@ fault_of_end l body ns at s t count f = by (ending_of l) s refl f
     by Holidays stop.Record is f = absurd f
     by Holidays (stop.Number after) is (ms, u, b) =
         let rest = drop after (drop at body) in
-        let j = joined_append ns ms in
+        let j = flat_map-append groups ns ms in
         let e : body ≡ flat_map groups (ns ++ ms) ++ rest = t.front ∙ ap (λ r. flat_map groups ns ++ r) u.front ∙ sym (append_assoc (flat_map groups ns) (flat_map groups ms) rest) ∙ ap (λ g. g ++ rest) (sym j) in
         let p : length (flat_map groups (ns ++ ms)) ≡ at + after = omega (arith, ap length j, length-append (flat_map groups ns) (flat_map groups ms), t.place, u.place) in
         let P : ℕ → Type 0 = λ n. FieldsFault l body (stop.Number n) in
@@ -63,15 +60,6 @@ fields_within l body _ (broken ns rest short e few b) = omega (arith, ap length 
 fields_within l body _ (left_over ns rest short e count is f) = omega arith
 fields_within l body _ (long ns rest short e count is f) = omega arith
 fields_within l body _ (holiday ns rest short e count is b) = omega (arith, ap length e, length-append (flat_map groups ns) rest)
-
--- ---- four places
-pub four : (kept : List ℤ) → length kept ≡ 4 → kept ≡ get_or kept 0 (pos 0) ∷ get_or kept 1 (pos 0) ∷ get_or kept 2 (pos 0) ∷ get_or kept 3 (pos 0) ∷ []
-four [] e = absurd (omega arith)
-four (a ∷ []) e = absurd (omega arith)
-four (a ∷ b ∷ []) e = absurd (omega arith)
-four (a ∷ b ∷ c ∷ []) e = absurd (omega arith)
-four (a ∷ b ∷ c ∷ d ∷ []) e = refl
-four (a ∷ b ∷ c ∷ d ∷ x ∷ rest) e = absurd (omega arith)
 
 -- a bid has a second number, and it is not under nought
 pub second : (kept : List ℤ) (ns : List ℕ) → length kept ≡ 4 → take 3 kept ≡ map pos ns → pos 0 ≤ℤ get_or kept 1 (pos 0)
@@ -97,22 +85,23 @@ tail_said (Lodge institution centavos) tail place b ends = sym ends
 tail_said (Release institution centavos) tail place b ends = sym ends
 tail_said (Terminate hedge) tail place b ends = sym ends
 
+-- a letter asks for four numbers at most
+pub numbers_few : (l : Letter) → numbers_in l ≤ 4
+numbers_few letter.Start = omega arith
+numbers_few letter.Admit = omega arith
+numbers_few letter.Announce = omega arith
+numbers_few letter.Bid = omega arith
+numbers_few letter.Seal = omega arith
+numbers_few letter.Publish = omega arith
+numbers_few letter.Void = omega arith
+numbers_few letter.Fix = omega arith
+numbers_few letter.Lodge = omega arith
+numbers_few letter.Release = omega arith
+numbers_few letter.Terminate = omega arith
+
 -- a number was read for each that the letter asks for
 pub count_read : (l : Letter) (kept : List ℤ) (ns : List ℕ) → length kept ≡ 4 → take (numbers_in l) kept ≡ map pos ns → length ns ≡ numbers_in l
-count_read l kept ns e read = omega (arith, ap length read, length-map ns pos, length-take-le (numbers_in l) kept (omega (arith, at_most l)))
-  where
-    at_most : (l : Letter) → numbers_in l ≤ 4
-    at_most letter.Start = omega arith
-    at_most letter.Admit = omega arith
-    at_most letter.Announce = omega arith
-    at_most letter.Bid = omega arith
-    at_most letter.Seal = omega arith
-    at_most letter.Publish = omega arith
-    at_most letter.Void = omega arith
-    at_most letter.Fix = omega arith
-    at_most letter.Lodge = omega arith
-    at_most letter.Release = omega arith
-    at_most letter.Terminate = omega arith
+count_read l kept ns e read = omega (arith, ap length read, length-map ns pos, length-take-le (numbers_in l) kept (omega (arith, numbers_few l)))
 
 pub read_as : (l : Letter) (body : List ℕ) (start : ℕ × ℕ) (r : Record) (kept : List ℤ) (ns : List ℕ) (at : ℕ) → length kept ≡ 4 → take (numbers_in l) kept ≡ map pos ns → Spelt ns body at → Ends (ending_of l) (drop at body) → letter_of r ≡ l → numbers_of r ≡ take (numbers_in l) kept → BorrowsTail r (drop at body) (start.0, at + start.1) → ReadAs l body start r
 read_as l body start r kept ns at e read s ends is numbers b =
@@ -156,12 +145,12 @@ end-failed l body kept at k s is t f =
 pub bid_second : (l : Letter) (body : List ℕ) (kept : List ℤ) (at : ℕ) → length kept ≡ 4 → TailOf l body kept at → l ≡ letter.Bid → pos 0 ≤ℤ get_or kept 1 (pos 0)
 bid_second l body kept at e t is = second kept t.ns e (ap (λ k. take (numbers_in k) kept) (sym is) ∙ t.read)
 
-pub whole : (l : Letter) (body : List ℕ) (start : ℕ × ℕ) (r : Record) (kept : List ℤ) (at : ℕ) (k : Ending) → length kept ≡ 4 → k ≡ ending_of l → TailOf l body kept at → Ends k (take (length body - at) (drop at body)) → letter_of r ≡ l → numbers_of r ≡ take (numbers_in l) (get_or kept 0 (pos 0) ∷ get_or kept 1 (pos 0) ∷ get_or kept 2 (pos 0) ∷ get_or kept 3 (pos 0) ∷ []) → BorrowsTail r (take (length body - at) (drop at body)) (start.0, at + start.1) → ReadAs l body start r
+pub whole : (l : Letter) (body : List ℕ) (start : ℕ × ℕ) (r : Record) (kept : List ℤ) (at : ℕ) (k : Ending) → length kept ≡ 4 → k ≡ ending_of l → TailOf l body kept at → Ends k (take (length body - at) (drop at body)) → letter_of r ≡ l → numbers_of r ≡ take (numbers_in l) kept → BorrowsTail r (take (length body - at) (drop at body)) (start.0, at + start.1) → ReadAs l body start r
 whole l body start r kept at k e is t ends letter numbers b =
     let P : Ending → Type 0 = λ k. Ends k (drop at body) in
     let Q : List ℕ → Type 0 = λ xs. Ends k xs in
     let R : List ℕ → Type 0 = λ xs. BorrowsTail r xs (start.0, at + start.1) in
-    read_as l body start r kept t.ns at e t.read t.spelt (subst P is (subst Q (take_rest body at) ends)) letter (numbers ∙ ap (take (numbers_in l)) (sym (four kept e))) (subst R (take_rest body at) b)
+    read_as l body start r kept t.ns at e t.read t.spelt (subst P is (subst Q (take_rest body at) ends)) letter numbers (subst R (take_rest body at) b)
 
 -- ---- a run of numbers has no broken one
 pub unbroken : (ns ms rest : List ℕ) → AllByRecursion Short ns → AllByRecursion Short ms → flat_map groups ns ++ rest ≡ flat_map groups ms → Broken rest → ⊥
@@ -173,5 +162,5 @@ unbroken (n ∷ ns) (m ∷ ms) rest sn sm e b =
     let s = one-spelling n m (flat_map groups ns ++ rest) (flat_map groups ms) sn.0 sm.0 (sym (append_assoc (groups n) (flat_map groups ns) rest) ∙ e) in
     unbroken ns ms rest sn.1 sm.1 s.1 b
 
-pub run_broken : (bytes : List ℕ) (at : ℕ) → RunFrom bytes (Some at) → Run bytes → ⊥
+pub run_broken : (bytes : List ℕ) (at : ℕ) → RunFrom bytes (Err (stop.Number at)) → Run bytes → ⊥
 run_broken bytes at (ns, s, b) (ms, short, e) = unbroken ns ms (drop at bytes) s.short short (sym s.front ∙ e) b

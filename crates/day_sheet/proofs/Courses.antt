@@ -1,17 +1,15 @@
 -- A sheet read to its end or to its first fault. Assumes nothing.
-use Rattle.std.proofs.Common.{◌≡◌, ℕ, ◌+◌, ◌-◌, ◌<◌, ◌≤◌, false, eqb, ◌⊎◌, List, [], ◌∷◌, ◌++◌, length, drop, Ok, Err, sym, ap, ◌∙◌, subst, inl, inr, arith}
+use Rattle.std.proofs.Common.{◌≡◌, ℕ, ◌≤◌, false, eqb, List, [], ◌∷◌, ◌++◌, length, drop, sym, ap, ◌∙◌, arith}
 use Rattle.std.specs.List.{flat_map, AllByRecursion}
-use Rattle.std.proofs.lemmas.List.{append_assoc, append-nil, drop_all, flat_map_more, length-append, length_push}
+use Rattle.std.proofs.lemmas.List.{append_assoc, flat_map_more, length-append, length_push}
 use Rattle.std.proofs.ByRecursion.{All-push}
-use Rattle.std.proofs.lemmas.Bool.{cases_lt, cases_eq, ne_eqb}
-use Rattle.day_sheet.specs.declared.fault.Fault.{Fault}
+use Rattle.std.proofs.lemmas.Bool.{ne_eqb}
 use Rattle.day_sheet.specs.declared.reader.Reader.{Reader}
 use Rattle.day_sheet.specs.declared.reader.Placed.{Placed}
 use Rattle.day_sheet.specs.Letters.{is_start}
-use Rattle.day_sheet.specs.Faults.{fault_of}
-use Rattle.day_sheet.specs.Records.{Entry, spell, Sound, RecordFault}
-use Rattle.day_sheet.specs.Sheets.{Tells, Passed, Failed, Ended}
-use Rattle.day_sheet.specs.Verdicts.{StartFirst, Verdict}
+use Rattle.day_sheet.specs.Records.{Entry, spell, Sound}
+use Rattle.day_sheet.specs.Sheets.{Passed}
+use Rattle.day_sheet.specs.Verdicts.{StartFirst}
 
 -- the reader has read these records
 pub record Along (sheet : List ℕ) (d : Reader) (records : ℕ) : Type 0 where
@@ -50,40 +48,3 @@ along_more sheet d after records p a s =
       order = start_more a.es e a.order first;
       size = λ _. omega (arith, s.size, ap length a.same);
     }
-
--- a record takes the reader on, and not past the sheet
-pub along_falls : (sheet : List ℕ) (d after : Reader) (records : ℕ) (p : Placed) → Along sheet d records → Passed d after p → length sheet - after.at < length sheet - d.at
-along_falls sheet d after records p a s = let t = s.stands in omega (arith, t.length-is, t.within, ap length a.same)
-
-pub along_fault : (sheet : List ℕ) (d after : Reader) (records : ℕ) (f : Fault) → Along sheet d records → Failed d after f → Verdict sheet (Err f)
-along_fault sheet d after records f a s = go s.told
-  where
-    go : Tells d f → Verdict sheet (Err f)
-    go (inl (long, is)) = inl (omega (arith, ap length a.same), is)
-    go (inr (size, (stop, fault, is))) =
-        let P : ℕ → Type 0 = λ k. RecordFault (eqb k 0) (drop d.at d.sheet.now) stop in
-        let Q : List ℕ → Type 0 = λ xs. RecordFault (eqb (length a.es) 0) (drop d.at xs) stop in
-        inr (
-          a.es,
-          record {
-            order = a.order;
-            sound = a.sound;
-            rest = drop d.at sheet;
-            spelled = a.spelled;
-            size = omega (arith, ap length a.same);
-            stop = stop;
-            fault = subst Q a.same (subst P a.count fault);
-            told = is ∙ ap (λ k. fault_of (k + 1) d.at stop) a.count ∙ ap (λ k. fault_of (length a.es + 1) k stop) a.place;
-          },
-        )
-
-pub along_end : (sheet : List ℕ) (d after : Reader) (records : ℕ) → Along sheet d records → Ended d after → Verdict sheet (Ok records)
-along_end sheet d after records a s = go (cases_eq d.records 0) (cases_lt d.at (length d.sheet.now))
-  where
-    go : (d.records ≡ 0) ⊎ (d.records ≡ 0 → ⊥) → (d.at < length d.sheet.now) ⊎ (length d.sheet.now ≤ d.at) → Verdict sheet (Ok records)
-    go (inl z) _ = absurd (s.ended (a.over, inl z))
-    go (inr _) (inl l) = absurd (s.ended (a.over, inr l))
-    go (inr nz) (inr h) =
-        let some : 1 ≤ length a.es = omega (arith, a.count) in
-        let e : drop d.at sheet ≡ [] = drop_all d.at sheet (omega (arith, ap length a.same)) in
-        (a.es, record { some = some; order = a.order; sound = a.sound; spelled = a.spelled ∙ ap (λ r. flat_map spell a.es ++ r) e ∙ append-nil (flat_map spell a.es); size = a.size some }, a.told)

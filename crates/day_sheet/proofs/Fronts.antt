@@ -1,9 +1,17 @@
 -- A record's letter and length, read at a place of the sheet. Assumes nothing.
-use Rattle.std.proofs.Common.{◌≡◌, ℕ, ◌+◌, ◌-◌, ◌^◌, ◌<◌, ◌≤◌, Bool, true, false, not, List, ◌∷◌, ◌++◌, length, get_or, take, drop, sym, ap, ◌∙◌, subst, arith}
+use Rattle.std.proofs.Common.{◌≡◌, ℕ, ◌+◌, ◌-◌, ◌^◌, ◌<◌, ◌≤◌, Bool, true, false, not, List, ◌∷◌, ◌++◌, length, get_or, take, drop, ltb, Some, None, Err, Option, sym, refl, ap, ◌∙◌, subst, arith}
 use Rattle.std.specs.Bool.{beq}
+use Rattle.std.specs.Cmp.{booleans_Decides}
 use Rattle.std.specs.List.{flat_map}
 use Rattle.std.proofs.lemmas.List.{append_assoc, drop_all, drop-drop, drop_more, length-append, length-drop, length-take-le, take-append-drop}
+use Rattle.std.proofs.lemmas.Bool.{false≢true, ltb-true, ltb-false, not-false}
+use Rattle.std.specs.Borrow.{Bor}
+use Rattle.std.specs.Option.{IfSome, is_some}
+use denote.Enum.Bare.{sameb}
+use Rattle.day_sheet.specs.contracts.letter.Letter.{the_type}
 use Rattle.day_sheet.specs.declared.letter.Letter.{Letter}
+use Rattle.day_sheet.specs.declared.letter.Letter.TheVariants as letter
+use Rattle.day_sheet.specs.Readings.{AskedAt}
 use Rattle.day_sheet.specs.declared.fault.Stop.{Stop}
 use Rattle.day_sheet.specs.declared.fault.Stop.TheVariants as stop
 use Rattle.day_sheet.specs.Groups.{groups, Short, Begins}
@@ -18,29 +26,57 @@ use Rattle.day_sheet.proofs.Runs.{begins_room}
 
 -- the test whether S is in its place
 pub start_same : (r s f : Bool) → r ≡ s → not (beq r f) ≡ false → s ≡ f
-start_same true s true e h = sym e
-start_same true s false e h = absurd (grind arith)
-start_same false s true e h = absurd (grind arith)
-start_same false s false e h = sym e
+start_same r s f e h = sym e ∙ (booleans_Decides r f).0 (not-false (beq r f) h)
 
 pub start_apart : (r s f : Bool) → r ≡ s → not (beq r f) ≡ true → s ≡ f → ⊥
-start_apart true s true e h g = grind arith
-start_apart true s false e h g = grind arith
-start_apart false s true e h g = grind arith
-start_apart false s false e h g = grind arith
+start_apart r s f e h g = let t = (booleans_Decides r f).1 (e ∙ g) in absurd (false≢true (sym (ap not t) ∙ h))
+
+-- S is told from the other letters
+pub start_is : (l : Letter) → sameb the_type l letter.Start ≡ is_start l
+start_is letter.Start = refl
+start_is letter.Admit = refl
+start_is letter.Announce = refl
+start_is letter.Bid = refl
+start_is letter.Seal = refl
+start_is letter.Publish = refl
+start_is letter.Void = refl
+start_is letter.Fix = refl
+start_is letter.Lodge = refl
+start_is letter.Release = refl
+start_is letter.Terminate = refl
+
+-- a byte stands at the place
+pub record ByteAt (sheet : List ℕ) (at b : ℕ) : Type 0 where
+  pub within : at < length sheet
+  pub front : drop at sheet ≡ b ∷ drop (at + 1) sheet
+
+pub byte_at : (sheet : List ℕ) (at : ℕ) (r : Option (Bor ℕ)) (x : Bor ℕ) → r ≡ Some x → is_some r ≡ ltb at (length sheet) → IfSome r (λ x. x.now ≡ get_or sheet at x.now) → ByteAt sheet at x.now
+byte_at sheet at None x is within here = cc
+byte_at sheet at (Some y) x is within here = subst (λ (b : Bor ℕ). ByteAt sheet at b.now) same of
+  where
+    same : y ≡ x
+    same = cc
+
+    of : ByteAt sheet at y.now
+    of = let h = ltb-true at (length sheet) (sym within) in record { within = h; front = drop_more sheet at y.now h ∙ ap (λ b. b ∷ drop (at + 1) sheet) (sym here) }
 
 -- a letter stands at the place
-pub letter_at : (sheet : List ℕ) (at : ℕ) (l : Letter) → at < length sheet → byte_of l ≡ get_or sheet at 0 → drop at sheet ≡ byte_of l ∷ drop (at + 1) sheet
-letter_at sheet at l h e = drop_more sheet at 0 h ∙ ap (λ b. b ∷ drop (at + 1) sheet) (sym e)
+pub letter_at : (sheet : List ℕ) (at b : ℕ) (l : Letter) → ByteAt sheet at b → byte_of l ≡ b → drop at sheet ≡ byte_of l ∷ drop (at + 1) sheet
+letter_at sheet at b l h e = h.front ∙ ap (λ b. b ∷ drop (at + 1) sheet) (sym e)
 
-pub head_none : (sheet : List ℕ) (at : ℕ) (first : Bool) → length sheet ≤ at → first ≡ true → RecordFault first (drop at sheet) stop.Record
-head_none sheet at first h f = none f (drop_all at sheet h)
+pub head_none : (sheet : List ℕ) (at : ℕ) (first : Bool) (r : Option (Bor ℕ)) → r ≡ None → is_some r ≡ ltb at (length sheet) → (length sheet ≤ at → first ≡ true) → RecordFault first (drop at sheet) stop.Record
+head_none sheet at first None is within f = let h = ltb-false at (length sheet) (sym within) in none (f h) (drop_all at sheet h)
+head_none sheet at first (Some x) is within f = cc
 
-pub head_unknown : (sheet : List ℕ) (at : ℕ) (first : Bool) → at < length sheet → ((l : Letter) → byte_of l ≡ get_or sheet at 0 → ⊥) → RecordFault first (drop at sheet) stop.Record
-head_unknown sheet at first h f = unknown (get_or sheet at 0) (drop (at + 1) sheet) (drop_more sheet at 0 h) f
+pub head_unknown : (sheet : List ℕ) (at b : ℕ) (first : Bool) → ByteAt sheet at b → ((l : Letter) → byte_of l ≡ b → ⊥) → RecordFault first (drop at sheet) stop.Record
+head_unknown sheet at b first h f = unknown b (drop (at + 1) sheet) h.front f
 
-pub head_short : (sheet : List ℕ) (at : ℕ) (first : Bool) (l : Letter) → drop at sheet ≡ byte_of l ∷ drop (at + 1) sheet → is_start l ≡ first → length sheet ≤ at + 1 → RecordFault first (drop at sheet) stop.Record
-head_short sheet at first l e f h = no_length l (e ∙ ap (λ bs. byte_of l ∷ bs) (drop_all (at + 1) sheet h)) f
+-- a length is asked for, and none stands there
+pub head_short : (sheet : List ℕ) (at : ℕ) (first : Bool) (l : Letter) (s : Stop) → drop at sheet ≡ byte_of l ∷ drop (at + 1) sheet → is_start l ≡ first → AskedAt sheet (at + 1) 1 (Err s) → RecordFault first (drop at sheet) s
+head_short sheet at first l stop.Record e f h = no_length l (e ∙ ap (λ bs. byte_of l ∷ bs) (drop_all (at + 1) sheet h)) f
+head_short sheet at first l (stop.Number place) e f (broken, is) =
+    let P : ℕ → Type 0 = λ n. RecordFault first (drop at sheet) (stop.Number n) in
+    subst P (sym is) (bad_length l (drop (at + 1) sheet) e f broken)
 
 -- the letter and a length
 pub record Lengthed (sheet : List ℕ) (at : ℕ) (l : Letter) (n len : ℕ) : Type 0 where
@@ -55,19 +91,6 @@ lengthed sheet at l n len e (b, is) =
 
 pub head_past : (sheet : List ℕ) (at : ℕ) (first : Bool) (l : Letter) (n len : ℕ) → Lengthed sheet at l n len → is_start l ≡ first → length sheet - (at + 1 + len) < n → RecordFault first (drop at sheet) stop.Record
 head_past sheet at first l n len s f h = past l n (drop (at + 1 + len) sheet) s.spelled f s.size (omega (arith, length-drop (at + 1 + len) sheet))
-
-pub headed : (sheet : List ℕ) (at : ℕ) (first : Bool) (l : Letter) (n len : ℕ) → Lengthed sheet at l n len → is_start l ≡ first → n ≤ length sheet - (at + 1 + len) → Headed sheet at first (record { letter = l; start = at + 1 + len; «end» = at + 1 + len + n })
-headed sheet at first l n len s f h =
-    let e : (at + 1 + len + n) - (at + 1 + len) ≡ n = omega arith in
-    let P : ℕ → Type 0 = Short in
-    record {
-      placed = f;
-      order = omega arith;
-      within = omega (arith, s.within);
-      size = subst P (sym e) s.size;
-      start = omega (arith, ap (λ m. length (groups m)) e, s.place);
-      spelled = s.spelled ∙ ap (λ m. byte_of l ∷ (groups m ++ drop (at + 1 + len) sheet)) (sym e);
-    }
 
 -- ---- the fields between the start and the end
 pub record Bodied (sheet : List ℕ) (at : ℕ) (first : Bool) (l : Letter) (start next : ℕ) (body : List ℕ) : Type 0 where

@@ -1,16 +1,21 @@
 -- Numbers that a sheet can hold, and their spellings side by side. Assumes nothing.
-use Rattle.std.proofs.Common.{◌≡◌, ℕ, zero, suc, ◌+◌, ◌*◌, ◌<◌, ◌≤◌, true, false, ◌&&◌, leb, ◌⊎◌, List, [], ◌∷◌, ◌++◌, map, length, get_or, take, drop, ℤ, pos, negsuc, nat_abs, sym, refl, ap, ◌∙◌, inl, inr, arith, w64, SFits}
+use Rattle.std.proofs.Common.{◌≡◌, ℕ, ◌+◌, ◌*◌, ◌<◌, ◌≤◌, true, false, leb, ◌⊎◌, List, [], ◌∷◌, ◌++◌, map, length, get_or, take, drop, ℤ, pos, negsuc, nat_abs, sym, refl, ap, ◌∙◌, inl, inr, arith, w64, SFits}
 use Rattle.std.specs.Prelude.{int_le}
 use Rattle.std.specs.List.{list_all, flat_map}
-use Rattle.std.proofs.lemmas.List.{append-nil, at_drop_more, length-append, map-append, map_more, take-append-drop}
+use Rattle.std.proofs.lemmas.List.{append-nil, length-append, length-take, map-append, map_more, take-append-drop}
+use Rattle.std.proofs.lemmas.List.Sums.{sum_by-cons}
 use Rattle.std.proofs.lemmas.Int.{ints}
 use Rattle.std.proofs.lemmas.Bool.{and_parts, and_from, and_left, and_right, cases_Bool, le-leb, leb-true}
 use Rattle.day_sheet.specs.Groups.{groups, Short}
-use Rattle.day_sheet.specs.Writings.{holdable, spellings, written_at}
+use Rattle.day_sheet.specs.Writings.{holdable, size_of, spellings, written_at}
 use Rattle.day_sheet.proofs.Spelling.{groups-few, groups-bound, groups-some}
 use Rattle.day_sheet.specs.declared.letter.Letter.{Letter}
 use Rattle.day_sheet.specs.Entries.{body, spelled}
-use Rattle.day_sheet.proofs.Bodies.{joined_append}
+use Rattle.day_sheet.specs.Letters.{numbers_in}
+use Rattle.day_sheet.specs.Parts.{asked, held}
+use Rattle.day_sheet.specs.declared.parts.Parts.{Parts}
+use Rattle.day_sheet.proofs.Bodies.{numbers_few}
+use Rattle.std.proofs.lemmas.Grind.{flat_map-append}
 use Rattle.day_sheet.proofs.Overlays.{written-more}
 
 -- a number of 64 bits and a sign has at most nine groups, if it is not under nought
@@ -27,22 +32,13 @@ held_natural (negsuc n) h = absurd (grind arith)
 pub held_short : (z : ℤ) → holdable z ≡ true → Short (nat_abs z)
 held_short z h = leb-true _ 9 (and_parts (int_le (pos 0) z) _ h).1
 
-pub held_at : (zs : List ℤ) (i : ℕ) → i < length zs → list_all holdable zs ≡ true → holdable (get_or zs i (pos 0)) ≡ true
-held_at [] i h e = absurd (omega arith)
-held_at (z ∷ zs) zero h e = (and_parts (holdable z) (list_all holdable zs) e).0
-held_at (z ∷ zs) (suc i) h e = held_at zs i (omega arith) (and_parts (holdable z) (list_all holdable zs) e).1
-
--- ---- a turn of the loops
-pub held_more : (zs : List ℤ) (i : ℕ) → i < length zs → list_all holdable (drop i zs) ≡ (holdable (get_or zs i (pos 0)) && list_all holdable (drop (i + 1) zs))
-held_more zs i h = at_drop_more (list_all holdable) zs i (pos 0) h
-
 pub spellings-append : (ys zs : List ℤ) → spellings (ys ++ zs) ≡ spellings ys ++ spellings zs
-spellings-append ys zs = ap (flat_map groups) (map-append nat_abs ys zs) ∙ joined_append (map nat_abs ys) (map nat_abs zs)
+spellings-append ys zs = ap (flat_map groups) (map-append nat_abs ys zs) ∙ flat_map-append groups (map nat_abs ys) (map nat_abs zs)
 
 pub spellings-more : (zs : List ℤ) (i : ℕ) → i < length zs → spellings (take (i + 1) zs) ≡ spellings (take i zs) ++ groups (nat_abs (get_or zs i (pos 0)))
 spellings-more zs i h =
     ap (flat_map groups) (map_more nat_abs zs i (pos 0) h)
-    ∙ joined_append (map nat_abs (take i zs)) (nat_abs (get_or zs i (pos 0)) ∷ [])
+    ∙ flat_map-append groups (map nat_abs (take i zs)) (nat_abs (get_or zs i (pos 0)) ∷ [])
     ∙ ap (λ r. spellings (take i zs) ++ r) (append-nil (groups (nat_abs (get_or zs i (pos 0)))))
 
 pub spellings-front : (zs : List ℤ) (i : ℕ) → length (spellings (take i zs)) ≤ length (spellings zs)
@@ -53,17 +49,6 @@ spellings-front zs i =
 pub spellings-room : (zs : List ℤ) (i : ℕ) → i < length zs → length (spellings (take i zs)) + length (groups (nat_abs (get_or zs i (pos 0)))) ≤ length (spellings zs)
 spellings-room zs i h =
     omega (arith, spellings-front zs (i + 1), ap length (spellings-more zs i h), length-append (spellings (take i zs)) (groups (nat_abs (get_or zs i (pos 0)))))
-
-pub size_more : (zs : List ℤ) (i size : ℕ) → i < length zs → list_all holdable zs ≡ true → (size ≡ length (spellings (take i zs))) × (size ≤ 9 * i) → (size + length (groups (nat_abs (get_or zs i (pos 0)))) ≡ length (spellings (take (i + 1) zs))) × (size + length (groups (nat_abs (get_or zs i (pos 0)))) ≤ 9 * (i + 1))
-size_more zs i size h held inv =
-    let s = held_short (get_or zs i (pos 0)) (held_at zs i h held) in
-    (omega (arith, inv.0, ap length (spellings-more zs i h), length-append (spellings (take i zs)) (groups (nat_abs (get_or zs i (pos 0))))), omega (arith, inv.1))
-
-pub held_step : (zs : List ℤ) (i : ℕ) → i < length zs → true ≡ holdable (get_or zs i (pos 0)) → list_all holdable (drop i zs) ≡ list_all holdable zs → list_all holdable (drop (i + 1) zs) ≡ list_all holdable zs
-held_step zs i h e inv = ap (λ b. b && list_all holdable (drop (i + 1) zs)) e ∙ sym (held_more zs i h) ∙ inv
-
-pub held_stop : (zs : List ℤ) (i : ℕ) → i < length zs → false ≡ holdable (get_or zs i (pos 0)) → list_all holdable (drop i zs) ≡ list_all holdable zs → false ≡ list_all holdable zs
-held_stop zs i h e inv = ap (λ b. b && list_all holdable (drop (i + 1) zs)) e ∙ sym (held_more zs i h) ∙ inv
 
 -- ---- numbers written one after another
 abbrev pub PutTo : (start : List ℕ) (at : ℕ) (zs : List ℤ) (i next : ℕ) (out : List ℕ) → Type 0
@@ -112,3 +97,14 @@ unholdable (negsuc n) out = refl
 
 pub second_unheld : (a z m : ℤ) → holdable z ≡ false → list_all holdable (a ∷ z ∷ m ∷ []) ≡ false
 second_unheld a z m f = and_right (holdable a) _ (and_left (holdable z) _ f)
+
+-- how many bytes there are, number by number
+pub size-of : (zs : List ℤ) → size_of zs ≡ length (spellings zs)
+size-of [] = refl
+size-of (z ∷ zs) = omega (arith, sum_by-cons (λ z. length (groups (nat_abs z))) z zs, size-of zs, length-append (groups (nat_abs z)) (spellings zs))
+
+-- the letter's numbers take at most 36 bytes, and the others at most nine each
+pub size_most : (p : Parts) → held p ≡ true → (size_of (asked p) ≤ 36) × (size_of p.more.now ≤ 9 * length p.more.now)
+size_most p h =
+    let b = and_parts (list_all holdable (asked p)) (list_all holdable p.more.now) h in
+    (omega (arith, size-of (asked p), spellings-most (asked p) b.0, length-take (numbers_in p.letter) p.numbers, numbers_few p.letter), omega (arith, size-of p.more.now, spellings-most p.more.now b.1))

@@ -1,6 +1,7 @@
 pub mod Spelling
 pub mod Overlays
 pub mod Runs
+pub mod Tries
 pub mod Bodies
 pub mod Fronts
 pub mod Held

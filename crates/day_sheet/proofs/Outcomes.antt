@@ -1,6 +1,7 @@
 -- What can stand at a place of a sheet: one record, or one fault, and never both. Assumes nothing.
 use Rattle.std.proofs.Common.{◌≡◌, ℕ, zero, suc, ◌+◌, ◌-◌, ◌<◌, ◌≤◌, Bool, true, false, cond, eqb, ltb, List, [], ◌∷◌, ◌++◌, length, take, drop, Some, None, Option, sym, refl, ap, ◌∙◌, arith}
 use Rattle.std.specs.Bool.{beq}
+use Rattle.std.specs.Cmp.{booleans_Decides}
 use Rattle.std.specs.List.{flat_map, AllByRecursion}
 use Rattle.std.proofs.lemmas.List.{append_assoc, append-nil, drop_at, take_at, length-append, length-take-le, take-append-drop}
 use Rattle.std.proofs.ByRecursion.{All-take, All-drop}
@@ -17,7 +18,7 @@ use Rattle.day_sheet.specs.Letters.{byte_of, numbers_in, ending_of, is_start}
 use Rattle.day_sheet.specs.Faults.{later}
 use Rattle.day_sheet.specs.Records.{Entry, Run, Ends, fields, spell, Complete, Sound, FieldsFault, missing, broken, left_over, long, holiday, RecordFault, none, unknown, misplaced, no_length, bad_length, past, in_fields}
 use Rattle.day_sheet.proofs.Spelling.{groups-some, number_groups, number_spelled}
-use Rattle.day_sheet.proofs.Bodies.{joined_append}
+use Rattle.std.proofs.lemmas.Grind.{flat_map-append}
 
 -- ---- numbers from the front on
 data Got : Type 0 where
@@ -228,7 +229,7 @@ fields-lost l body _ (holiday ns rest short e count is b) =
     let c = numbers_in l in
     let front = take c ns in
     let more = drop c ns in
-    let j : flat_map groups ns ≡ flat_map groups front ++ flat_map groups more = ap (flat_map groups) (sym (take-append-drop c ns)) ∙ joined_append front more in
+    let j : flat_map groups ns ≡ flat_map groups front ++ flat_map groups more = ap (flat_map groups) (sym (take-append-drop c ns)) ∙ flat_map-append groups front more in
     let g : body ≡ flat_map groups front ++ (flat_map groups more ++ rest) = e ∙ ap (λ x. x ++ rest) j ∙ append_assoc (flat_map groups front) (flat_map groups more) rest in
     let n : length front ≡ numbers_in l = length-take-le c ns count in
     fields-end l body front (flat_map groups more ++ rest) Holidays (Number (length (flat_map groups more))) (All-take Short c ns short) g n is (run_stops (flat_map groups more ++ rest) more rest (All-drop Short c ns short) refl b)
@@ -299,12 +300,6 @@ abbrev out : Bool → (bytes : List ℕ) → Out
 out first [] = bad Record
 out first (b ∷ rest) = letter_then first rest (letter_in b)
 
-same-beq : (a b : Bool) → a ≡ b → beq a b ≡ true
-same-beq true true e = refl
-same-beq true false e = absurd (grind arith)
-same-beq false true e = absurd (grind arith)
-same-beq false false e = refl
-
 apart_beq : (a b : Bool) → (a ≡ b → ⊥) → beq a b ≡ false
 apart_beq true true f = absurd (f refl)
 apart_beq true false f = refl
@@ -313,7 +308,7 @@ apart_beq false false f = absurd (f refl)
 
 -- after a letter in its place
 after_letter : (first : Bool) (l : Letter) (rest : List ℕ) → is_start l ≡ first → out first (byte_of l ∷ rest) ≡ length_then l rest (number_by 9 rest)
-after_letter first l rest f = ap (letter_then first rest) (letter_is l) ∙ cond-true _ _ _ (same-beq (is_start l) first f)
+after_letter first l rest f = ap (letter_then first rest) (letter_is l) ∙ cond-true _ _ _ ((booleans_Decides (is_start l) first).1 f)
 
 after_length : (first : Bool) (l : Letter) (n : ℕ) (rest : List ℕ) → is_start l ≡ first → Short n → out first (byte_of l ∷ (groups n ++ rest)) ≡ sized l n (1 + length (groups n)) rest
 after_length first l n rest f short =

@@ -1,13 +1,9 @@
 -- Bytes written over others, one after another. Assumes nothing.
 use Rattle.std.proofs.Common.{◌≡◌, ℕ, ◌+◌, ◌/◌, ◌%◌, ◌<◌, ◌≤◌, List, [], ◌∷◌, ◌++◌, length, take, drop, set, sym, ap, ◌∙◌, add-one, arith}
-use borrow.Rule.Slice.PartMut.{put_mid}
-use Rattle.std.proofs.lemmas.List.{set_split, append_assoc, take-append-drop, take_at, drop_at, drop-drop, length-append, length-take-le}
+use Rattle.std.proofs.lemmas.List.{set_split, append_assoc, take_at, drop_at, drop-drop, length-append, length-take-le}
 use Rattle.day_sheet.specs.Groups.{groups}
 use Rattle.day_sheet.specs.Writings.{written_at}
 use Rattle.day_sheet.proofs.Spelling.{groups-small, groups-large}
-
-pub written_none : (xs : List ℕ) (at : ℕ) → written_at xs at [] ≡ xs
-written_none xs at = let e : at + 0 ≡ at = omega arith in rw e (take-append-drop at xs)
 
 pub written_one : (xs : List ℕ) (at b : ℕ) → at < length xs → set xs at b ≡ written_at xs at (b ∷ [])
 written_one xs at b h = rw add-one (set_split xs at b h)
@@ -22,12 +18,6 @@ written-more xs at next ys zs room is =
     let t : take next (written_at xs at ys) ≡ front = ap (take next) g ∙ take_at front tail next l in
     let d : drop (next + length zs) (written_at xs at ys) ≡ drop (at + length (ys ++ zs)) xs = sym (drop-drop (length zs) next (written_at xs at ys)) ∙ ap (λ l. drop (length zs) (drop next l)) g ∙ ap (drop (length zs)) (drop_at front tail next l) ∙ drop-drop (length zs) (at + length ys) xs ∙ ap (λ n. drop n xs) (omega (arith, length-append ys zs)) in
     rw (t, d) (append_assoc (take at xs) ys (zs ++ drop (at + length (ys ++ zs)) xs) ∙ ap (λ l. take at xs ++ l) (sym (append_assoc ys zs (drop (at + length (ys ++ zs)) xs))))
-
-pub written-part : (xs : List ℕ) (at : ℕ) (ys zs : List ℕ) (k : ℕ) → k ≡ length ys → zs ≡ ys → put_mid at k xs zs ≡ written_at xs at ys
-written-part xs at ys zs k n e =
-    ap (λ m. put_mid at m xs zs) n
-    ∙ ap (λ l. put_mid at (length ys) xs l) e
-    ∙ ap (λ r. take at xs ++ (ys ++ r)) (drop-drop (length ys) at xs)
 
 -- ---- a turn of the writing of a number
 pub put_last : (xs : List ℕ) (at n : ℕ) → at < length xs → n < 128 → set xs at n ≡ written_at xs at (groups n)

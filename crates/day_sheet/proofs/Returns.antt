@@ -1,6 +1,7 @@
 -- What was written can be read back, and what was read is written the same. Assumes nothing.
 use Rattle.std.proofs.Common.{◌≡◌, ℕ, ◌+◌, min, Bool, true, false, not, ◌&&◌, eqb, List, [], ◌∷◌, map, length, ℤ, pos, nat_abs, None, refl, ap, ◌∙◌, arith}
 use Rattle.std.specs.Bool.{beq}
+use Rattle.std.specs.Cmp.{booleans_Decides}
 use Rattle.std.specs.List.{list_all, AllByRecursion}
 use Rattle.std.proofs.lemmas.List.{length-append, length-map}
 use Rattle.std.proofs.lemmas.Bool.{and_parts, or_parts, not-false, ltb-false}
@@ -14,7 +15,8 @@ use Rattle.day_sheet.specs.Records.{Ends, fields, spell}
 use Rattle.day_sheet.specs.Holdings.{letter_of, numbers_of, record_tail}
 use Rattle.day_sheet.specs.Writings.{holdable}
 use Rattle.day_sheet.specs.Entries.{is_long}
-use Rattle.day_sheet.specs.Writer.{RunOf, entry_of, ReadsBack, WritesAgain}
+use Rattle.day_sheet.specs.Parts.{RunOf}
+use Rattle.day_sheet.specs.Writer.{entry_of, ReadsBack, WritesAgain}
 use Rattle.day_sheet.proofs.Spelling.{groups-few}
 use Rattle.day_sheet.proofs.Held.{held_natural, held_short}
 
@@ -23,12 +25,6 @@ none_first x y z true b c e = absurd (grind arith)
 none_first x y z false true c e = absurd (grind arith)
 none_first x y z false false true e = absurd (grind arith)
 none_first x y z false false false e = (refl, refl, refl)
-
-beq_same : (a b : Bool) → beq a b ≡ true → a ≡ b
-beq_same true true e = refl
-beq_same true false e = absurd (grind arith)
-beq_same false true e = absurd (grind arith)
-beq_same false false e = refl
 
 all_short : (zs : List ℤ) → list_all holdable zs ≡ true → AllByRecursion Short (map nat_abs zs)
 all_short [] e = tt
@@ -80,7 +76,7 @@ reads_back r run room used decides accepted =
         size = few;
       };
       says = record { letter = refl; numbers = all_natural (numbers_of r) held.0; tail = refl };
-      placed = beq_same (is_start (letter_of r)) (eqb used 0) (not-false (beq (is_start (letter_of r)) (eqb used 0)) place.1);
+      placed = (booleans_Decides (is_start (letter_of r)) (eqb used 0)).0 (not-false (beq (is_start (letter_of r)) (eqb used 0)) place.1);
     }
 
 natural_back : (ns : List ℕ) → map nat_abs (map pos ns) ≡ ns

@@ -1,8 +1,8 @@
 -- A number's spelling determines it, and no spelling is the front of another. Assumes nothing.
-use Rattle.std.proofs.Common.{◌≡◌, ℕ, zero, suc, ◌+◌, ◌-◌, ◌*◌, ◌/◌, ◌%◌, ◌^◌, ◌<◌, ◌≤◌, true, false, eqb, ltb, ◌⊎◌, List, [], ◌∷◌, ◌++◌, length, get_or, drop, Some, None, Option, sym, refl, ap, ◌∙◌, inl, inr, pow-suc, add-one, arith}
+use Rattle.std.proofs.Common.{◌≡◌, ℕ, zero, suc, ◌+◌, ◌-◌, ◌*◌, ◌/◌, ◌%◌, ◌^◌, ◌<◌, ◌≤◌, true, false, eqb, ltb, ◌⊎◌, List, [], ◌∷◌, ◌++◌, length, drop, Some, None, Option, sym, refl, ap, ◌∙◌, inl, inr, pow-suc, add-one, arith}
 use Rattle.std.proofs.lemmas.Bool.{cases_lt, cases_eq, lt-ltb, le-ltb, ne_eqb, cond-true, cond-false, cond_both}
 use Rattle.std.proofs.lemmas.Bool.Decides.{nat_tests}
-use Rattle.std.proofs.lemmas.List.{append_cancel_left, drop_all, drop-drop, at_drop_more}
+use Rattle.std.proofs.lemmas.List.{append_cancel_left, drop-drop}
 use Rattle.day_sheet.specs.Groups.{groups_by, groups, Short, Begins, Broken}
 use Rattle.day_sheet.specs.Readings.{goes_on, number_by}
 
@@ -89,16 +89,8 @@ spelled-more k b n len bytes hi lo nz s =
     let f : b ∷ bytes ≡ groups m ++ drop (len + 1) (b ∷ bytes) = rw (g, d) (ap (λ bs. b ∷ bs) s.front) in
     record { few = omega (arith, s.few); front = f; len_is = omega (arith, s.len_is) }
 
-pair_in : Option (ℕ × ℕ) → ℕ × ℕ
-pair_in None = (0, 0)
-pair_in (Some p) = p
-
-pub none_some : (p : ℕ × ℕ) → ◌≡◌ {A = Option (ℕ × ℕ)} None (Some p) → ⊥
-none_some p e = let z : ◌≡◌ {A = ℕ} 0 1 = cc in omega arith
-
 some_pair : (a b c d : ℕ) → ◌≡◌ {A = Option (ℕ × ℕ)} (Some (a, b)) (Some (c, d)) → (a ≡ c) × (b ≡ d)
-unfolding pair_in
-some_pair a b c d e = (ap (λ o. (pair_in o).0) e, ap (λ o. (pair_in o).1) e)
+some_pair a b c d e = let p : ◌≡◌ {A = ℕ × ℕ} (a, b) (c, d) = cc in (ap (λ p. p.0) p, ap (λ p. p.1) p)
 
 pub number_spelled : (k : ℕ) (bytes : List ℕ) (n len : ℕ) → number_by k bytes ≡ Some (n, len) → Spelled k bytes n len
 number_spelled zero bytes n len e = absurd (grind arith)
@@ -123,23 +115,11 @@ number_spelled (suc k) (b ∷ bytes) n len e = go (cases_lt b 128) (cases_lt b 2
     go (inr h) (inr l) ih = absurd (grind (arith, nat_tests))
 
 -- ---- one turn of the reading
-pub read_none : (k at : ℕ) (xs : List ℕ) → (k ≡ 0) ⊎ (length xs ≤ at) → number_by k (drop at xs) ≡ None
-read_none zero at xs _ = refl
-read_none (suc k) at xs (inl z) = absurd (omega arith)
-read_none (suc k) at xs (inr h) = rw (drop_all at xs h)
-
-pub read_last : (k at : ℕ) (xs : List ℕ) → 1 ≤ k → at < length xs → get_or xs at 0 < 128 → number_by k (drop at xs) ≡ Some (get_or xs at 0, 1)
-read_last zero at xs one h s = absurd (omega arith)
-read_last (suc k) at xs one h s = at_drop_more (number_by (suc k)) xs at 0 h ∙ cond-true _ _ _ (lt-ltb _ 128 s)
-
-pub read_more : (k at : ℕ) (xs : List ℕ) → 1 ≤ k → at < length xs → 128 ≤ get_or xs at 0 → get_or xs at 0 < 256 → number_by k (drop at xs) ≡ goes_on (get_or xs at 0) (number_by (k - 1) (drop (at + 1) xs))
-read_more zero at xs one h s b = absurd (omega arith)
-read_more (suc k) at xs one h s b =
-    let e : suc k - 1 ≡ k = omega arith in
-    rw e (at_drop_more (number_by (suc k)) xs at 0 h ∙ cond-false _ _ _ (le-ltb _ 128 s) ∙ cond-true _ _ _ (lt-ltb _ 256 b))
-
-pub read_from : (k at : ℕ) (xs : List ℕ) (o : Option (ℕ × ℕ)) → 1 ≤ k → at < length xs → 128 ≤ get_or xs at 0 → get_or xs at 0 < 256 → o ≡ number_by (k - 1) (drop (at + 1) xs) → goes_on (get_or xs at 0) o ≡ number_by k (drop at xs)
-read_from k at xs o one h s b e = ap (goes_on (get_or xs at 0)) e ∙ sym (read_more k at xs one h s b)
+pub read_from : (k b : ℕ) (xs after : List ℕ) (o : Option (ℕ × ℕ)) → 1 ≤ k → xs ≡ b ∷ after → 128 ≤ b → b < 256 → o ≡ number_by (k - 1) after → goes_on b o ≡ number_by k xs
+read_from zero b xs after o one is s big e = absurd (omega arith)
+read_from (suc k) b xs after o one is s big e =
+    let m : suc k - 1 ≡ k = omega arith in
+    ap (goes_on b) (rw m at e) ∙ sym (ap (number_by (suc k)) is ∙ cond-false _ _ _ (le-ltb b 128 s) ∙ cond-true _ _ _ (lt-ltb b 256 big))
 
 -- with one group before them, eight groups leave room in 64 bits
 pub number_bound : (k : ℕ) (bytes : List ℕ) (n len : ℕ) → k ≤ 8 → Some (n, len) ≡ number_by k bytes → (n < 128 ^ 8) × (len ≤ 8)
@@ -158,7 +138,7 @@ broken_from bytes some e = (λ z. omega (arith, ap length z), λ n rest b. never
   where
     never : (n : ℕ) (rest : List ℕ) → Begins bytes n rest → ⊥
     never n rest b =
-        none_some (n, length (groups n)) (e ∙ ap (number_by 9) b.1 ∙ number_groups 9 n rest b.0)
+        let z = e ∙ ap (number_by 9) b.1 ∙ number_groups 9 n rest b.0 in cc
 
 -- ---- how many groups there are
 pub groups-most : (n : ℕ) → length (groups n) ≤ n + 1

@@ -1,5 +1,5 @@
 -- What the writing of a record answers. Assumes nothing.
-use Rattle.std.specs.Prelude.{◌≡◌, ℕ, ◌+◌, ◌<◌, ◌≤◌, min, Bool, true, false, not, ◌&&◌, ◌||◌, ltb, List, [], ◌∷◌, ◌++◌, length, ℤ, Some, None, Ok, Err, Option, Result, ◌==◌, nat_lt}
+use Rattle.std.specs.Prelude.{◌≡◌, ℕ, ◌+◌, ◌<◌, min, Bool, false, not, ◌&&◌, ◌||◌, ltb, List, [], ◌∷◌, ◌++◌, length, ℤ, Ok, Err, Option, Result, ◌==◌, nat_lt}
 use Rattle.std.specs.Bool.{beq}
 use Rattle.std.specs.List.{list_all}
 use Rattle.terms.specs.declared.refusal.Refusal.{Refusal}
@@ -32,12 +32,7 @@ entry_refusal room used l numbers more tail =
     ∷ (WrongLength, nat_lt (min room 65536) (used + length (spelled l numbers more tail)))
     ∷ [])
 
--- what the judgement finds: why the record is refused, or the size of its fields, with what then holds
-abbrev pub Judged : (room used : ℕ) (l : Letter) (numbers more : List ℤ) (tail : List ℕ) → Result ℕ Refusal → Type 0
-Judged room used l numbers more tail (Ok size) = (entry_refusal room used l numbers more tail ≡ None) × (size ≡ length (body numbers more tail)) × (list_all holdable numbers ≡ true) × (list_all holdable more ≡ true) × (used + length (spelled l numbers more tail) ≤ room)
-Judged room used l numbers more tail (Err e) = entry_refusal room used l numbers more tail ≡ Some e
-
 -- the size of the fields, unless they are too many for any sheet
-abbrev pub SizeWithin : (fields : List ℕ) → Option ℕ → Type 0
-SizeWithin fields (Some n) = (n ≡ length fields) × (n < 1000000)
-SizeWithin fields None = 65536 < length fields
+abbrev pub SizeWithin : (fields : List ℕ) → Result ℕ Refusal → Type 0
+SizeWithin fields (Ok n) = (n ≡ length fields) × (n < 1000000)
+SizeWithin fields (Err e) = (e ≡ WrongLength) × (65536 < length fields)

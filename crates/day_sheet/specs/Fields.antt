@@ -1,5 +1,5 @@
 -- What the reading of a record's fields answers. Assumes nothing.
-use Rattle.std.specs.Prelude.{◌≡◌, ℕ, ◌<◌, List, [], ◌++◌, map, length, take, drop, ℤ, pos, Some, None, Ok, Err, Option, Result}
+use Rattle.std.specs.Prelude.{◌≡◌, ℕ, ◌<◌, List, [], ◌++◌, map, length, take, drop, ℤ, pos, Ok, Err, Result}
 use Rattle.std.specs.List.{flat_map, AllByRecursion}
 use Rattle.day_sheet.specs.declared.letter.Ending.{Ending}
 use Rattle.day_sheet.specs.declared.letter.Ending.TheVariants.{Nothing, Holidays, Reference}
@@ -25,17 +25,17 @@ NumbersFrom bytes count (Ok n) = (length n.numbers ≡ 4) × ReadOff (take count
 NumbersFrom bytes count (Err Record) = (ns : List ℕ) × (length ns < count) × AllByRecursion Short ns × (bytes ≡ flat_map groups ns)
 NumbersFrom bytes count (Err (Number at)) = (ns : List ℕ) × (length ns < count) × Spelt ns bytes at × Broken (drop at bytes)
 
--- a run of numbers to the end, or where it stops
-abbrev pub RunFrom : (bytes : List ℕ) → Option ℕ → Type 0
-RunFrom bytes None = Run bytes
-RunFrom bytes (Some at) = (ns : List ℕ) × Spelt ns bytes at × Broken (drop at bytes)
+-- a run of numbers to the end, or the number where it stops
+abbrev pub RunFrom : (bytes : List ℕ) → Result Unit Stop → Type 0
+RunFrom bytes (Ok u) = Run bytes
+RunFrom bytes (Err Record) = ⊥
+RunFrom bytes (Err (Number at)) = (ns : List ℕ) × Spelt ns bytes at × Broken (drop at bytes)
 
 -- an end is as it should be, or at fault
 abbrev pub EndFault : Ending → (tail : List ℕ) → Stop → Type 0
 EndFault Nothing tail Record = tail ≡ [] → ⊥
 EndFault Nothing tail (Number at) = ⊥
-EndFault Holidays tail Record = ⊥
-EndFault Holidays tail (Number at) = RunFrom tail (Some at)
+EndFault Holidays tail s = RunFrom tail (Err s)
 EndFault Reference tail Record = 24 < length tail
 EndFault Reference tail (Number at) = ⊥
 

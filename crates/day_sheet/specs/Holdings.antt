@@ -39,16 +39,8 @@ numbers_of (Terminate hedge) = hedge ∷ []
 -- the bytes that follow them
 abbrev pub record_tail : Record → List ℕ
 record_tail (Start day percent holidays) = holidays.bytes.now
-record_tail (Admit institution) = []
-record_tail (Announce kind offer cap maturity) = []
 record_tail (Bid institution price millions reference) = reference.now
-record_tail Seal = []
-record_tail Publish = []
-record_tail Void = []
-record_tail (Fix day rate) = []
-record_tail (Lodge institution centavos) = []
-record_tail (Release institution centavos) = []
-record_tail (Terminate hedge) = []
+record_tail _ = []
 
 -- a record says what an entry says
 pub record Says (r : Record) (e : Entry) : Type 0 where
@@ -59,16 +51,8 @@ pub record Says (r : Record) (e : Entry) : Type 0 where
 -- the bytes that it borrows, if it borrows any, and where they start in memory
 abbrev pub BorrowsTail : Record → (tail : List ℕ) (place : ℕ × ℕ) → Type 0
 BorrowsTail (Start day percent holidays) tail place = (holidays.bytes.now ≡ tail) × (holidays.bytes.ref_ptr ≡ place)
-BorrowsTail (Admit institution) tail place = Unit {0}
-BorrowsTail (Announce kind offer cap maturity) tail place = Unit {0}
 BorrowsTail (Bid institution price millions reference) tail place = (reference.now ≡ tail) × (reference.ref_ptr ≡ place)
-BorrowsTail Seal tail place = Unit {0}
-BorrowsTail Publish tail place = Unit {0}
-BorrowsTail Void tail place = Unit {0}
-BorrowsTail (Fix day rate) tail place = Unit {0}
-BorrowsTail (Lodge institution centavos) tail place = Unit {0}
-BorrowsTail (Release institution centavos) tail place = Unit {0}
-BorrowsTail (Terminate hedge) tail place = Unit {0}
+BorrowsTail _ tail place = Unit {0}
 
 -- a record is read off its fields, which start at a place of memory: what it borrows is a part of them
 pub record ReadAs (l : Letter) (body : List ℕ) (start : ℕ × ℕ) (r : Record) : Type 0 where

@@ -1,5 +1,7 @@
 -- The letters of the records, and what each record holds. Assumes nothing.
-use Rattle.std.specs.Prelude.{◌≡◌, ℕ, Bool, true, false, Some, None, Option, ◌≢◌}
+use Rattle.std.specs.Prelude.{◌≡◌, ℕ, Bool, true, false, Ok, Err, Result, ◌≢◌}
+use Rattle.day_sheet.specs.declared.fault.Stop.{Stop}
+use Rattle.day_sheet.specs.declared.fault.Stop.TheVariants.{Record}
 use Rattle.day_sheet.specs.declared.letter.Letter.{Letter}
 use Rattle.day_sheet.specs.declared.letter.Letter.TheVariants.{Start, Admit, Announce, Bid, Seal, Publish, Void, Fix, Lodge, Release, Terminate}
 use Rattle.day_sheet.specs.declared.letter.Ending.{Ending}
@@ -36,32 +38,15 @@ numbers_in Terminate = 1
 -- what follows them to the record's end: holidays, a reference, or nothing
 abbrev pub ending_of : Letter → Ending
 ending_of Start = Holidays
-ending_of Admit = Nothing
-ending_of Announce = Nothing
 ending_of Bid = Reference
-ending_of Seal = Nothing
-ending_of Publish = Nothing
-ending_of Void = Nothing
-ending_of Fix = Nothing
-ending_of Lodge = Nothing
-ending_of Release = Nothing
-ending_of Terminate = Nothing
+ending_of _ = Nothing
 
 -- S, which is first on a sheet and only first
 abbrev pub is_start : Letter → Bool
 is_start Start = true
-is_start Admit = false
-is_start Announce = false
-is_start Bid = false
-is_start Seal = false
-is_start Publish = false
-is_start Void = false
-is_start Fix = false
-is_start Lodge = false
-is_start Release = false
-is_start Terminate = false
+is_start _ = false
 
--- a byte is the letter's, or no letter's
-abbrev pub LetterOf : (byte : ℕ) → Option Letter → Type 0
-LetterOf byte (Some l) = byte_of l ≡ byte
-LetterOf byte None = (l : Letter) → byte_of l ≢ byte
+-- a byte is the letter's, or no letter's, and then the record is at fault
+abbrev pub LetterOf : (byte : ℕ) → Result Letter Stop → Type 0
+LetterOf byte (Ok l) = byte_of l ≡ byte
+LetterOf byte (Err s) = (s ≡ Record) × ((l : Letter) → byte_of l ≢ byte)

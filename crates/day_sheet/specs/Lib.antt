@@ -9,6 +9,7 @@ pub mod Holdings
 pub mod Heads
 pub mod Sheets
 pub mod Entries
+pub mod Parts
 pub mod Writer
 pub mod Verdicts
 pub mod Runs

@@ -1,5 +1,5 @@
 -- How a sheet is read, record after record. Assumes nothing.
-use Rattle.std.specs.Prelude.{◌≡◌, ℕ, ◌+◌, ◌<◌, ◌≤◌, true, false, ◌⊎◌, List, length, drop, Some, None, Ok, Err, Option, Result, ◌==◌}
+use Rattle.std.specs.Prelude.{◌≡◌, ℕ, ◌+◌, ◌-◌, ◌<◌, ◌≤◌, true, false, cond, ◌⊎◌, List, length, drop, Some, None, Ok, Err, Option, Result, ◌==◌}
 use Rattle.std.specs.Borrow.{Bor}
 use Rattle.day_sheet.specs.declared.fault.Stop.{Stop}
 use Rattle.day_sheet.specs.declared.fault.Fault.{Fault}
@@ -53,7 +53,16 @@ pub record Ended (d after : Reader) : Type 0 where
   pub same : after ≡ d
 
 -- what the next reading answers
-abbrev pub NextIn : (d after : Reader) → Option (Result Placed Fault) → Type 0
-NextIn d after None = Ended d after
-NextIn d after (Some (Ok p)) = Passed d after p
-NextIn d after (Some (Err f)) = Failed d after f
+abbrev pub NextIn : (d : Reader) → Option (Result Placed Fault) → (after : Reader) → Type 0
+NextIn d None after = Ended d after
+NextIn d (Some (Ok p)) after = Passed d after p
+NextIn d (Some (Err f)) after = Failed d after f
+
+-- a record is read, or a fault is told and the reader stays as it is
+abbrev pub ReadOn : (d after : Reader) → Result Placed Fault → Type 0
+ReadOn d after (Ok p) = Passed d after p
+ReadOn d after (Err f) = Tells d f × (after ≡ d)
+
+-- how many answers are left at most: none after a fault, else one for each byte ahead and one more
+abbrev pub answers_left : Reader → ℕ
+answers_left d = cond d.over 0 (length d.sheet.now - d.at + 1)

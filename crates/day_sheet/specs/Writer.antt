@@ -1,26 +1,20 @@
 -- What the writing of a record on a sheet answers. Assumes nothing.
-use Rattle.std.specs.Prelude.{◌≡◌, ℕ, ◌+◌, min, Bool, false, not, ◌&&◌, ◌||◌, List, [], ◌∷◌, map, length, take, ℤ, None, Ok, Err, Decides, Option, Result, ◌==◌, nat_lt, unsigned_abs}
+use Rattle.std.specs.Prelude.{◌≡◌, ℕ, ◌+◌, min, Bool, not, ◌&&◌, ◌||◌, List, [], ◌∷◌, map, length, ℤ, None, Decides, Option, Result, ◌==◌, nat_lt, unsigned_abs}
 use Rattle.std.specs.Bool.{beq}
 use Rattle.std.specs.List.{list_all}
 use Rattle.terms.specs.declared.refusal.Refusal.{Refusal}
 use Rattle.terms.specs.declared.refusal.Refusal.TheVariants.{WrongLength, BadNumber, BadRecord}
 use Rattle.terms.specs.Refusals.{first, answered, unless_refused}
-use Rattle.day_sheet.specs.declared.letter.Letter.{Letter}
 use Rattle.day_sheet.specs.declared.letter.Letter.TheVariants as letter
-use Rattle.day_sheet.specs.declared.letter.Ending.TheVariants.{Nothing, Holidays, Reference}
 use Rattle.day_sheet.specs.declared.writer.Sheet.{Sheet}
 use Rattle.day_sheet.specs.declared.record.Record.{Record}
-use Rattle.day_sheet.specs.declared.writer.Parts.{Parts}
-use Rattle.day_sheet.specs.Letters.{numbers_in, ending_of, is_start}
-use Rattle.day_sheet.specs.Records.{Entry, spell, Run, Sound}
-use Rattle.day_sheet.specs.Entries.{is_long, spelled, entry_refusal}
+use Rattle.day_sheet.specs.declared.parts.Parts.{Parts}
+use Rattle.day_sheet.specs.Letters.{is_start}
+use Rattle.day_sheet.specs.Records.{Entry, spell, Sound}
+use Rattle.day_sheet.specs.Entries.{is_long}
+use Rattle.day_sheet.specs.Parts.{RunOf, spelling_of, refusal_of}
 use Rattle.day_sheet.specs.Writings.{holdable, spellings, written_at}
 use Rattle.day_sheet.specs.Holdings.{letter_of, numbers_of, record_tail, Says}
-
--- a record's letter, numbers and tail, or one of its numbers cannot be held
-abbrev pub PartsOf : Record → Result Parts Refusal → Type 0
-PartsOf r (Ok p) = (p.letter ≡ letter_of r) × (length p.numbers ≡ 4) × (p.count ≡ numbers_in (letter_of r)) × (take p.count p.numbers ≡ numbers_of r) × (p.tail.now ≡ record_tail r)
-PartsOf r (Err e) = (e ≡ BadNumber) × (list_all holdable (numbers_of r) ≡ false) × (ending_of (letter_of r) ≡ Reference)
 
 -- what a record says, as it stands on a sheet
 abbrev pub entry_of : Record → Entry
@@ -29,10 +23,6 @@ entry_of r = record { letter = letter_of r; numbers = map unsigned_abs (numbers_
 -- S with a list of holidays
 abbrev pub start_entry : (day percent : ℤ) (holidays : List ℤ) → Entry
 start_entry day percent holidays = record { letter = letter.Start; numbers = unsigned_abs day ∷ unsigned_abs percent ∷ []; tail = spellings holidays }
-
--- the holidays of S are a run of numbers
-abbrev pub RunOf : Letter → (tail : List ℕ) → Type 0
-RunOf l tail = elim (ending_of l) [ Nothing ↦ Unit {0} | Holidays ↦ Run tail | Reference ↦ Unit {0} ]
 
 -- why an entry is not written on a sheet of which so many bytes are used: first its numbers, then a reference of more than 24 bytes, or S on a sheet that is not empty, or another record on an empty one, then the room among the first 65,536 bytes
 abbrev pub refusal : (held : Bool) (room used : ℕ) (e : Entry) → Option Refusal
@@ -44,10 +34,10 @@ refusal held room used e =
     ∷ [])
 
 -- the same of a record in its parts
-pub record Spells (before after : Sheet) (l : Letter) (numbers more : List ℤ) (tail : List ℕ) (a : Result Unit Refusal) : Type 0 where
-  pub answer : a ≡ answered (entry_refusal (length before.bytes.now) before.used l numbers more tail) tt
-  pub bytes : after.bytes.now ≡ unless_refused (entry_refusal (length before.bytes.now) before.used l numbers more tail) (written_at before.bytes.now before.used (spelled l numbers more tail)) before.bytes.now
-  pub used : after.used ≡ unless_refused (entry_refusal (length before.bytes.now) before.used l numbers more tail) (before.used + length (spelled l numbers more tail)) before.used
+pub record Spells (before after : Sheet) (p : Parts) (a : Result Unit Refusal) : Type 0 where
+  pub answer : a ≡ answered (refusal_of (length before.bytes.now) before.used p) tt
+  pub bytes : after.bytes.now ≡ unless_refused (refusal_of (length before.bytes.now) before.used p) (written_at before.bytes.now before.used (spelling_of p)) before.bytes.now
+  pub used : after.used ≡ unless_refused (refusal_of (length before.bytes.now) before.used p) (before.used + length (spelling_of p)) before.used
 
 -- an entry is written after the used bytes, or refused, and then nothing has changed
 pub record Written (before after : Sheet) (held : Bool) (e : Entry) (a : Result Unit Refusal) : Type 0 where

@@ -1,5 +1,5 @@
 -- What the writing of a number answers. Assumes nothing.
-use Rattle.std.specs.Prelude.{ℕ, ◌+◌, Bool, cond, ◌&&◌, List, [], ◌∷◌, ◌++◌, map, length, take, drop, ℤ, pos, Some, None, Option, int_le, nat_le, nat_lt, unsigned_abs}
+use Rattle.std.specs.Prelude.{ℕ, ◌+◌, Bool, cond, ◌&&◌, List, [], ◌∷◌, ◌++◌, map, length, take, drop, ℤ, pos, Some, None, Option, int_le, nat_le, nat_lt, sum_by, unsigned_abs}
 use Rattle.std.specs.List.{flat_map}
 use Rattle.terms.specs.declared.refusal.Refusal.{Refusal}
 use Rattle.terms.specs.declared.refusal.Refusal.TheVariants.{WrongLength, BadNumber}
@@ -25,3 +25,7 @@ holdable z = int_le (pos 0) z && nat_le (length (groups (unsigned_abs z))) 9
 -- the spellings of numbers side by side
 abbrev pub spellings : List ℤ → List ℕ
 spellings zs = flat_map groups (map unsigned_abs zs)
+
+-- how many bytes spell the numbers
+abbrev pub size_of : List ℤ → ℕ
+size_of zs = sum_by (λ z. length (groups (unsigned_abs z))) zs

@@ -8,13 +8,9 @@ use crate::reader::Reader;
 fn count_records(sheet: &[u8]) -> Result<usize, Fault>
     ensures { Verdict sheet.now result }
 {
-    let mut reader = Reader::new(sheet);
     let mut records = 0;
-    while let Some(next) = reader.next() {
-        match next {
-            Ok(placed) => records = placed.number,
-            Err(fault) => return Err(fault),
-        }
+    for placed in Reader::new(sheet) {
+        records = placed?.number;
     }
     Ok(records)
 }

@@ -1,11 +1,10 @@
-ghost use Rattle.std.specs.Prelude.{◌≡◌, ◌≤◌, [], ◌∷◌, take, pos, ◌≤ℤ◌};
+ghost use Rattle.std.specs.Prelude.{◌≡◌, ◌≤◌, take, pos, ◌≤ℤ◌, slice_index_or};
 ghost use Rattle.day_sheet.specs.Letters.{numbers_in};
 ghost use Rattle.day_sheet.specs.Fields.{NumbersFrom, RunFrom, EndIn};
 ghost use Rattle.day_sheet.specs.Holdings.{letter_of, numbers_of, BorrowsTail, FieldsIn};
 
 use crate::fault::Stop;
 use crate::groups;
-use crate::groups::Reading;
 use crate::letter::{Ending, Letter};
 use crate::record::{Numbers, Record};
 
@@ -25,15 +24,10 @@ fn read_numbers(bytes: &[u8], count: usize) -> Result<Numbered, Stop>
 {
     let mut numbers = [0; 4];
     let mut at = 0;
-    for i in 0..count {
-        match groups::read(bytes, at) {
-            Reading::Number { value, length } => {
-                numbers[i] = value as i64;
-                at += length;
-            }
-            Reading::NoByte => return Err(Stop::Record),
-            Reading::Bad => return Err(Stop::Number(at)),
-        }
+    for number in &mut numbers[..count] {
+        let read = groups::read_asked(bytes, at, at)?;
+        *number = read.value as i64;
+        at += read.length;
     }
     Ok(Numbered {
         numbers,
@@ -41,52 +35,41 @@ fn read_numbers(bytes: &[u8], count: usize) -> Result<Numbered, Stop>
     })
 }
 
-// Where a run of numbers is broken, if it is.
-pub(crate) fn first_broken(bytes: &[u8]) -> Option<usize>
+// The bytes are a run of numbers, or one of them is at fault.
+pub(crate) fn check_run(bytes: &[u8]) -> Result<(), Stop>
     ensures { RunFrom bytes.now result }
 {
     let mut at = 0;
-    while at < bytes.len() {
-        match groups::read(bytes, at) {
-            Reading::Number { length, .. } => at += length,
-            _ => return Some(at),
-        }
+    while let Ok(number) = groups::read(bytes, at) {
+        at += number.length;
     }
-    None
+    if at < bytes.len() {
+        return Err(Stop::Number(at));
+    }
+    Ok(())
 }
 
 fn check_ending(ending: Ending, tail: &[u8]) -> Result<(), Stop>
     ensures { EndIn ending tail.now result }
 {
     match ending {
-        Ending::Nothing => {
-            if tail.len() > 0 {
-                return Err(Stop::Record);
-            }
-        }
-        Ending::Holidays => {
-            if let Some(at) = first_broken(tail) {
-                return Err(Stop::Number(at));
-            }
-        }
-        Ending::Reference => {
-            if tail.len() > MOST_REFERENCE {
-                return Err(Stop::Record);
-            }
-        }
+        Ending::Holidays => check_run(tail),
+        Ending::Nothing if !tail.is_empty() => Err(Stop::Record),
+        Ending::Reference if tail.len() > MOST_REFERENCE => Err(Stop::Record),
+        Ending::Nothing | Ending::Reference => Ok(()),
     }
-    Ok(())
 }
 
 // A price stands on the sheet with this added.
 pub(crate) const PRICE_RAISED: i64 = 10_000;
 
-fn record_of<'a>(letter: Letter, a: i64, b: i64, c: i64, d: i64, tail: &'a [u8]) -> Record<'a>
-    requires { letter ≡ Letter.Bid → pos 0 ≤ℤ b }
+fn record_of<'a>(letter: Letter, numbers: [i64; 4], tail: &'a [u8]) -> Record<'a>
+    requires { letter ≡ Letter.Bid → pos 0 ≤ℤ slice_index_or numbers 1 (pos 0) }
     ensures letter { letter_of result ≡ letter }
-    ensures numbers { numbers_of result ≡ take (numbers_in letter) (a ∷ b ∷ c ∷ d ∷ []) }
+    ensures numbers { numbers_of result ≡ take (numbers_in letter) numbers }
     ensures tail { BorrowsTail result tail.now tail.entry.ref_ptr }
 {
+    let [a, b, c, d] = numbers;
     match letter {
         Letter::Start => Record::Start {
             day: a,
@@ -127,9 +110,6 @@ pub(crate) fn read_fields<'a>(letter: Letter, body: &'a [u8]) -> Result<Record<'
 {
     let read = read_numbers(body, letter.numbers())?;
     let tail = &body[read.length..];
-    if let Err(stop) = check_ending(letter.ending(), tail) {
-        return Err(stop.later(read.length));
-    }
-    let [a, b, c, d] = read.numbers;
-    Ok(record_of(letter, a, b, c, d, tail))
+    check_ending(letter.ending(), tail).map_err(|stop| stop.later(read.length))?;
+    Ok(record_of(letter, read.numbers, tail))
 }

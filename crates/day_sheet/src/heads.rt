@@ -4,7 +4,7 @@ ghost use Rattle.day_sheet.specs.Heads.{HeadIn, RecordIn};
 use crate::fault::Stop;
 use crate::fields::read_fields;
 use crate::groups;
-use crate::groups::Reading;
+use crate::groups::Number;
 use crate::letter::Letter;
 use crate::record::Record;
 
@@ -27,30 +27,21 @@ fn read_head(sheet: &[u8], at: usize, first: bool) -> Result<Head, Stop>
     requires { length sheet.now ≤ at → first ≡ true }
     ensures { HeadIn sheet.now at first result }
 {
-    if at >= sheet.len() {
+    let &byte = sheet.get(at).ok_or(Stop::Record)?;
+    let letter = Letter::try_from(byte)?;
+    if (letter == Letter::Start) != first {
         return Err(Stop::Record);
     }
-    let Some(letter) = Letter::of_byte(sheet[at]) else {
-        return Err(Stop::Record);
-    };
-    if letter.is_start() != first {
+    let Number { value, length } = groups::read_asked(sheet, at + 1, 1)?;
+    let start = at + 1 + length;
+    if value > (sheet.len() - start) as u64 {
         return Err(Stop::Record);
     }
-    match groups::read(sheet, at + 1) {
-        Reading::NoByte => Err(Stop::Record),
-        Reading::Bad => Err(Stop::Number(1)),
-        Reading::Number { value, length } => {
-            let start = at + 1 + length;
-            if value > (sheet.len() - start) as u64 {
-                return Err(Stop::Record);
-            }
-            Ok(Head {
-                letter,
-                start,
-                end: start + value as usize,
-            })
-        }
-    }
+    Ok(Head {
+        letter,
+        start,
+        end: start + value as usize,
+    })
 }
 
 pub(crate) fn read_record<'a>(sheet: &'a [u8], at: usize, first: bool) -> Result<Found<'a>, Stop>
@@ -58,8 +49,7 @@ pub(crate) fn read_record<'a>(sheet: &'a [u8], at: usize, first: bool) -> Result
     ensures { RecordIn sheet.now sheet.entry.ref_ptr at first result }
 {
     let Head { letter, start, end } = read_head(sheet, at, first)?;
-    match read_fields(letter, &sheet[start..end]) {
-        Ok(record) => Ok(Found { record, next: end }),
-        Err(stop) => Err(stop.later(start - at)),
-    }
+    let before = start - at;
+    let record = read_fields(letter, &sheet[start..end]).map_err(|stop| stop.later(before))?;
+    Ok(Found { record, next: end })
 }

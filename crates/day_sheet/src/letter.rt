@@ -1,20 +1,22 @@
 ghost use Rattle.std.specs.Prelude.{◌≡◌};
-ghost use Rattle.day_sheet.specs.Letters.{byte_of, numbers_in, ending_of, is_start, LetterOf};
+ghost use Rattle.day_sheet.specs.Letters.{byte_of, numbers_in, ending_of, LetterOf};
+
+use crate::fault::Stop;
 
 // The kinds of record, each told by its letter.
 #[derive(Clone, Copy, PartialEq, Eq, Debug)]
 pub enum Letter {
-    Start,
-    Admit,
-    Announce,
-    Bid,
-    Seal,
-    Publish,
-    Void,
-    Fix,
-    Lodge,
-    Release,
-    Terminate,
+    Start = b'S' as isize,
+    Admit = b'I' as isize,
+    Announce = b'A' as isize,
+    Bid = b'B' as isize,
+    Seal = b'C' as isize,
+    Publish = b'P' as isize,
+    Void = b'V' as isize,
+    Fix = b'F' as isize,
+    Lodge = b'G' as isize,
+    Release = b'R' as isize,
+    Terminate = b'T' as isize,
 }
 
 // What follows a record's numbers, up to its end.
@@ -29,38 +31,7 @@ impl Letter {
     pub(crate) fn byte(self) -> u8
         ensures { result ≡ byte_of self }
     {
-        match self {
-            Letter::Start => b'S',
-            Letter::Admit => b'I',
-            Letter::Announce => b'A',
-            Letter::Bid => b'B',
-            Letter::Seal => b'C',
-            Letter::Publish => b'P',
-            Letter::Void => b'V',
-            Letter::Fix => b'F',
-            Letter::Lodge => b'G',
-            Letter::Release => b'R',
-            Letter::Terminate => b'T',
-        }
-    }
-
-    pub(crate) fn of_byte(byte: u8) -> Option<Letter>
-        ensures { LetterOf byte result }
-    {
-        match byte {
-            b'S' => Some(Letter::Start),
-            b'I' => Some(Letter::Admit),
-            b'A' => Some(Letter::Announce),
-            b'B' => Some(Letter::Bid),
-            b'C' => Some(Letter::Seal),
-            b'P' => Some(Letter::Publish),
-            b'V' => Some(Letter::Void),
-            b'F' => Some(Letter::Fix),
-            b'G' => Some(Letter::Lodge),
-            b'R' => Some(Letter::Release),
-            b'T' => Some(Letter::Terminate),
-            _ => None,
-        }
+        self as u8
     }
 
     // How many numbers the record begins with.
@@ -85,13 +56,28 @@ impl Letter {
             _ => Ending::Nothing,
         }
     }
+}
 
-    pub(crate) fn is_start(self) -> bool
-        ensures { result ≡ is_start self }
-    {
-        match self {
-            Letter::Start => true,
-            _ => false,
+// A byte that is no letter's puts the record at fault.
+impl TryFrom<u8> for Letter {
+    type Error = Stop;
+
+    ghost try_from_gives = { LetterOf };
+
+    fn try_from(byte: u8) -> Result<Letter, Stop> {
+        match byte {
+            b'S' => Ok(Letter::Start),
+            b'I' => Ok(Letter::Admit),
+            b'A' => Ok(Letter::Announce),
+            b'B' => Ok(Letter::Bid),
+            b'C' => Ok(Letter::Seal),
+            b'P' => Ok(Letter::Publish),
+            b'V' => Ok(Letter::Void),
+            b'F' => Ok(Letter::Fix),
+            b'G' => Ok(Letter::Lodge),
+            b'R' => Ok(Letter::Release),
+            b'T' => Ok(Letter::Terminate),
+            _ => Err(Stop::Record),
         }
     }
 }

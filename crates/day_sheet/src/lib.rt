@@ -9,6 +9,7 @@ pub mod groups;
 mod heads;
 mod letter;
 mod numbers;
+mod parts;
 pub mod reader;
 mod reading;
 pub mod record;

@@ -1,21 +1,22 @@
+ghost use Rattle.std.specs.Prelude.{length};
+ghost use Rattle.std.specs.Iterator.{at_most};
 ghost use Rattle.day_sheet.specs.Runs.{FirstIn};
 
 use crate::groups;
-use crate::groups::Reading;
+use crate::groups::Number;
 use crate::record::Numbers;
 
-impl<'a> Numbers<'a> {
-    // The first number and those after it, if there is one.
-    pub fn first(&self) -> Option<(i64, Numbers<'a>)>
-        ensures { FirstIn self.now result }
-    {
-        match groups::read(self.bytes, 0) {
-            Reading::Number { value, length } => {
-                let rest = &self.bytes[length..];
-                Some((value as i64, Numbers { bytes: rest }))
-            }
-            Reading::NoByte => None,
-            Reading::Bad => None,
-        }
+// The numbers one after another, to the end of the run or to one that is broken.
+impl<'a> Iterator for Numbers<'a> {
+    type Item = i64;
+
+    ghost next_gives = { FirstIn };
+
+    ghost remaining = { λ run. at_most (length run.bytes.now) };
+
+    fn next(&mut self) -> Option<i64> {
+        let Number { value, length } = groups::read(self.bytes, 0).ok()?;
+        self.bytes = &self.bytes[length..];
+        Some(value as i64)
     }
 }

@@ -1,4 +1,5 @@
-ghost use Rattle.day_sheet.specs.Sheets.{OpenedOn, NextIn};
+ghost use Rattle.std.specs.Iterator.{at_most};
+ghost use Rattle.day_sheet.specs.Sheets.{Goes, OpenedOn, ReadOn, NextIn, answers_left};
 
 use crate::fault::{Fault, Layer};
 use crate::heads::read_record;
@@ -28,34 +29,42 @@ impl<'a> Reader<'a> {
         }
     }
 
-    // The next record, or the sheet's first fault; nothing after a fault, or after the last record.
-    pub fn next(&mut self) -> Option<Result<Placed<'a>, Fault>>
-        ensures { NextIn self.old self.new result }
+    // Reads on by a record; a fault leaves the reader where it is.
+    fn read_on(&mut self) -> Result<Placed<'a>, Fault>
+        requires { Goes self.old }
+        ensures { ReadOn self.old self.new result }
     {
-        let first = self.records == 0;
-        if self.over || (!first && self.at >= self.sheet.len()) {
-            return None;
-        }
         if self.sheet.len() > MOST_BYTES {
-            self.over = true;
-            return Some(Err(TOO_LONG));
+            return Err(TOO_LONG);
         }
         let place = self.at;
         let number = self.records + 1;
-        match read_record(self.sheet, place, first) {
-            Ok(found) => {
-                self.at = found.next;
-                self.records = number;
-                Some(Ok(Placed {
-                    record: found.record,
-                    number,
-                    place,
-                }))
-            }
-            Err(stop) => {
-                self.over = true;
-                Some(Err(stop.fault(number, place)))
-            }
+        let read = read_record(self.sheet, place, self.records == 0);
+        let found = read.map_err(|stop| stop.fault(number, place))?;
+        self.at = found.next;
+        self.records = number;
+        Ok(Placed {
+            record: found.record,
+            number,
+            place,
+        })
+    }
+}
+
+// The records one after another, then the sheet's first fault; nothing after a fault, or after the last record.
+impl<'a> Iterator for Reader<'a> {
+    type Item = Result<Placed<'a>, Fault>;
+
+    ghost next_gives = { NextIn };
+
+    ghost remaining = { λ d. at_most (answers_left d) };
+
+    fn next(&mut self) -> Option<Result<Placed<'a>, Fault>> {
+        if self.over || (self.records > 0 && self.at >= self.sheet.len()) {
+            return None;
         }
+        let read = self.read_on();
+        self.over = read.is_err();
+        Some(read)
     }
 }

@@ -1,4 +1,5 @@
 // Records as text: dates as dates, rates and money in pesos.
+use day_sheet::fault::{Fault, Layer};
 use day_sheet::record::{Numbers, Record};
 use std::fmt;
 use terms::calendar::Date;
@@ -16,22 +17,29 @@ impl fmt::Display for Day {
     }
 }
 
-// A number of ten-thousandths or hundredths, as a decimal.
-#[derive(Clone, Copy)]
-pub struct Decimal {
-    pub units: i64,
-    pub per_one: u64,
+fn sign(number: i64) -> &'static str {
+    if number < 0 { "-" } else { "" }
 }
 
-impl fmt::Display for Decimal {
+// Centavos, as pesos.
+#[derive(Clone, Copy)]
+pub struct Pesos(pub i64);
+
+impl fmt::Display for Pesos {
     fn fmt<W: fmt::Write>(&self, f: &mut fmt::Formatter<W>) -> fmt::Result {
-        let size = self.units.unsigned_abs();
-        let sign = if self.units < 0 { "-" } else { "" };
-        if self.per_one == 100 {
-            write!(f, "{sign}{}.{:02}", size / 100, size % 100)
-        } else {
-            write!(f, "{sign}{}.{:04}", size / 10_000, size % 10_000)
-        }
+        let size = self.0.unsigned_abs();
+        write!(f, "{}{}.{:02}", sign(self.0), size / 100, size % 100)
+    }
+}
+
+// Ten-thousandths of a peso per dollar, as pesos.
+#[derive(Clone, Copy)]
+pub struct Rate(pub i64);
+
+impl fmt::Display for Rate {
+    fn fmt<W: fmt::Write>(&self, f: &mut fmt::Formatter<W>) -> fmt::Result {
+        let size = self.0.unsigned_abs();
+        write!(f, "{}{}.{:04}", sign(self.0), size / 10_000, size % 10_000)
     }
 }
 
@@ -51,17 +59,16 @@ impl<'a> fmt::Display for Hex<'a> {
     }
 }
 
-fn pesos(centavos: i64) -> Decimal {
-    Decimal {
-        units: centavos,
-        per_one: 100,
-    }
-}
+// A run of days, a space before each.
+#[derive(Clone, Copy)]
+pub struct Days<'a>(pub Numbers<'a>);
 
-fn rate(units: i64) -> Decimal {
-    Decimal {
-        units,
-        per_one: 10_000,
+impl<'a> fmt::Display for Days<'a> {
+    fn fmt<W: fmt::Write>(&self, f: &mut fmt::Formatter<W>) -> fmt::Result {
+        for day in self.0 {
+            write!(f, " {}", Day(day))?;
+        }
+        Ok(())
     }
 }
 
@@ -76,10 +83,7 @@ impl<'a> fmt::Display for Shown<'a> {
                 day,
                 percent,
                 holidays,
-            } => {
-                write!(f, "start {} part {percent}", Day(day))?;
-                show_holidays(holidays, f)
-            }
+            } => write!(f, "start {} part {percent}{}", Day(day), Days(holidays)),
             Record::Admit { institution } => write!(f, "admit {institution}"),
             Record::Announce {
                 kind,
@@ -96,39 +100,50 @@ impl<'a> fmt::Display for Shown<'a> {
                 price,
                 millions,
                 reference,
-            } => write!(
-                f,
-                "bid {institution} price {} millions {millions} reference {}",
-                rate(price),
-                Hex(reference)
-            ),
+            } => show_bid(institution, price, millions, reference, f),
             Record::Seal => write!(f, "seal"),
             Record::Publish => write!(f, "publish"),
             Record::Void => write!(f, "void"),
-            Record::Fix { day, rate: fixed } => write!(f, "fix {} rate {}", Day(day), rate(fixed)),
+            Record::Fix { day, rate } => write!(f, "fix {} rate {}", Day(day), Rate(rate)),
             Record::Lodge {
                 institution,
                 centavos,
-            } => write!(f, "lodge {institution} pesos {}", pesos(centavos)),
+            } => write!(f, "lodge {institution} pesos {}", Pesos(centavos)),
             Record::Release {
                 institution,
                 centavos,
-            } => write!(f, "release {institution} pesos {}", pesos(centavos)),
+            } => write!(f, "release {institution} pesos {}", Pesos(centavos)),
             Record::Terminate { hedge } => write!(f, "terminate {hedge}"),
         }
     }
 }
 
-fn show_holidays<W: fmt::Write>(holidays: Numbers, f: &mut fmt::Formatter<W>) -> fmt::Result {
-    let mut rest = holidays;
-    for _ in 0..65_536 {
-        match rest.first() {
-            Some((day, after)) => {
-                write!(f, " {}", Day(day))?;
-                rest = after;
-            }
-            None => return Ok(()),
-        }
+fn show_bid<W: fmt::Write>(
+    institution: i64,
+    price: i64,
+    millions: i64,
+    reference: &[u8],
+    f: &mut fmt::Formatter<W>,
+) -> fmt::Result {
+    write!(
+        f,
+        "bid {institution} price {} millions {millions} reference {}",
+        Rate(price),
+        Hex(reference)
+    )
+}
+
+// What a fault means.
+#[derive(Clone, Copy)]
+pub struct Meaning(pub Fault);
+
+impl fmt::Display for Meaning {
+    fn fmt<W: fmt::Write>(&self, f: &mut fmt::Formatter<W>) -> fmt::Result {
+        f.write_str(match (self.0.record, self.0.layer) {
+            (0, _) => "the sheet has more than 65,536 bytes",
+            (_, Layer::Groups) => "a number is broken, or ends too early",
+            (_, Layer::Record) =>
+                "no such record: its letter, its place, its length or its fields are wrong",
+        })
     }
-    Ok(())
 }

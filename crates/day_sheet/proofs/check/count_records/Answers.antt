@@ -1,24 +1,7 @@
-use Rattle.std.proofs.Common.{Some, Result, subst}
-use Rattle.day_sheet.specs.declared.fault.Fault.{Fault}
-use Rattle.day_sheet.specs.declared.reader.Placed.{Placed}
-use Rattle.day_sheet.specs.Sheets.{NextIn}
-use Rattle.day_sheet.proofs.Courses.{along_more, along_falls, along_fault, along_end}
+use Rattle.day_sheet.proofs.Courses.{along_more}
 use Rattle.day_sheet.proofs.check.count_records.Goals as goal
 
-pub loop-next-smaller : goal.loop-next-smaller
-loop-next-smaller c =
-    let P : Result Placed Fault → Type 0 = λ r. NextIn c.loop-next.reader c.next.new.self (Some r) in
-    along_falls c.args.sheet.now c.loop-next.reader c.next.new.self c.loop-next.records c.in-Ok.placed c.loop-next.invariant (subst P c.in-Ok.is c.in-Some.ensures)
-
-pub loop-next-preserved : goal.loop-next-preserved
-loop-next-preserved c =
-    let P : Result Placed Fault → Type 0 = λ r. NextIn c.loop-next.reader c.next.new.self (Some r) in
-    along_more c.args.sheet.now c.loop-next.reader c.next.new.self c.loop-next.records c.in-Ok.placed c.loop-next.invariant (subst P c.in-Ok.is c.in-Some.ensures)
-
-pub returns-in-Err : goal.returns-in-Err
-returns-in-Err c =
-    let P : Result Placed Fault → Type 0 = λ r. NextIn c.loop-next.reader c.next.new.self (Some r) in
-    along_fault c.args.sheet.now c.loop-next.reader c.next.new.self c.loop-next.records c.in-Err.fault c.loop-next.invariant (subst P c.in-Err.is c.in-Some.ensures)
-
-pub returns : goal.returns
-returns c = along_end c.args.sheet.now c.loop-next.reader c.next.new.self c.loop-next.records c.loop-next.invariant c.in_default.ensures
+pub loop-placed-preserved : goal.loop-placed-preserved
+loop-placed-preserved c =
+    let passed = rw c.in_ok-records.was at c.in-Some.ensures.steps in
+    (along_more c.args.sheet.now c.loop-placed.placed-iterator c.next.new.self c.loop-placed.records c.in_ok-records.field-0 c.loop-placed.invariant.0 passed, tt, tt)

@@ -1,9 +1,5 @@
-use Rattle.std.proofs.Common.{◌-◌, length}
 use Rattle.day_sheet.proofs.Courses.{Along}
 use Rattle.day_sheet.proofs.check.count_records.Given as goal
 
-abbrev pub invariant-loop-next : goal.invariant-loop-next
-invariant-loop-next l = Along l.sheet l.reader l.records
-
-abbrev pub decreases-loop-next : goal.decreases-loop-next
-decreases-loop-next l = length l.sheet - l.reader.at
+abbrev pub invariant-loop-placed : goal.invariant-loop-placed
+invariant-loop-placed l = Along l.sheet l.placed-iterator l.records × (goal.iterator-loop-placed).can_next l.placed-iterator × (goal.iterator-loop-placed).is_finite l.placed-iterator
