@@ -1,108 +1,62 @@
--- Bids: the millions of an institution among them, and where a new one goes.
-use Rattle.std.proofs.Common.{◌≡◌, ℕ, ◌+◌, ◌<◌, ◌≤◌, Bool, true, false, cond, eqb, ◌⊎◌, List, [], ◌∷◌, ◌++◌, map, length, get_or, take, drop, set, pos, filter, sym, refl, ap, ◌∙◌, subst, inl, inr, append_assoc, arith, length-set, length-take}
+-- Bids: where a new one goes.
+use Rattle.std.proofs.Common.{◌≡◌, ℕ, suc, ◌+◌, ◌-◌, ◌⊎◌, inl, inr, ltb, Option, ◌<◌, ◌≤◌, Bool, true, false, cond, not, List, [], ◌∷◌, ◌++◌, length, take, drop, set, sym, refl, ap, ◌∙◌, arith, add_comm, length-set}
+use borrow.Rule.Slice.PartMut.{put_mid, mid_of}
 use lib.Signed.{lt_z}
-use Rattle.std.proofs.lemmas.List.{at_drop_more, at_drop_all, get_or-take, drop-set-lt, take_more, take_more_set}
-use Rattle.std.proofs.lemmas.Bool.{both_ways}
+use Rattle.std.specs.List.{position, position_or_len}
+use Rattle.std.proofs.lemmas.List.{take-set-le, drop-take, drop-append-le, take_more_set, take-take, length-take-le, length-drop, length-append, drop_at, take_at}
+use Rattle.std.proofs.lemmas.List.Sums.{prefix_len-le-length}
+use Rattle.std.specs.Option.{unwrap_or}
+use Rattle.std.proofs.lemmas.Bool.{cases_lt, lt-ltb, le-ltb}
+use Rattle.std.proofs.lemmas.Slice.{take-put_mid}
 use Rattle.rules.specs.declared.auction.Bid.{Bid}
-use Rattle.rules.specs.Books.{total}
-use Rattle.rules.specs.Allotment.{millions_of, entered}
+use Rattle.rules.specs.Allotment.{entered}
 
--- a bid of nobody
-abbrev pub no_bid : Bid
-no_bid = record { institution = 0; price = pos 0; millions = 0 }
+-- how many bids stand before the first that is lower than x
+abbrev pub before : Bid → List Bid → ℕ
+before x xs = position_or_len (λ y. lt_z y.price x.price) xs
 
-millions-cons : (i : ℕ) (x : Bid) (xs : List Bid) → millions_of i (x ∷ xs) ≡ cond (eqb x.institution i) x.millions 0 + millions_of i xs
-millions-cons i x xs = go (eqb x.institution i)
+-- a bid goes before the first lower one
+pub entered-at : (x : Bid) (xs : List Bid) → entered x xs ≡ take (before x xs) xs ++ x ∷ drop (before x xs) xs
+entered-at x [] = refl
+entered-at x (y ∷ ys) = go (lt_z y.price x.price) (entered-at x ys)
   where
-    go : (t : Bool) → total (map (λ y. y.millions) (cond t (x ∷ filter (λ y. eqb y.institution i) xs) (filter (λ y. eqb y.institution i) xs))) ≡ cond t x.millions 0 + millions_of i xs
-    go true = refl
-    go false = omega arith
+    plus_one : (n : ℕ) → n + 1 ≡ suc n
+    plus_one n = omega arith
 
--- one bid more of those still to come
-pub millions-more : (i : ℕ) (xs : List Bid) (k : ℕ) → k < length xs → millions_of i (drop k xs) ≡ cond (eqb (get_or xs k no_bid).institution i) (get_or xs k no_bid).millions 0 + millions_of i (drop (k + 1) xs)
-millions-more i xs k h = at_drop_more (millions_of i) xs k no_bid h ∙ millions-cons i (get_or xs k no_bid) (drop (k + 1) xs)
+    go : (t : Bool) → entered x ys ≡ take (before x ys) ys ++ x ∷ drop (before x ys) ys → cond t (x ∷ y ∷ ys) (y ∷ entered x ys) ≡ take (cond (not t) (1 + before x ys) 0) (y ∷ ys) ++ x ∷ drop (cond (not t) (1 + before x ys) 0) (y ∷ ys)
+    go true ih = refl
+    go false ih = rw (add_comm 1 (before x ys)) (rw (plus_one (before x ys)) (ap (λ zs. y ∷ zs) ih))
 
-pub millions-all : (i : ℕ) (xs : List Bid) (k : ℕ) → length xs ≤ k → millions_of i (drop k xs) ≡ 0
-millions-all i xs k h = at_drop_all (millions_of i) xs k h
-
--- what is still to be written: the carried bid and those behind it, or, before its place is found, those behind with the new bid among them
-abbrev pub behind : Bid → Bool → Bid → List Bid → List Bid
-behind x found carried ys = cond found (carried ∷ ys) (entered x ys)
-
--- a turn of entering the bid x among the first n
-pub record Entering (n : ℕ) (x : Bid) (old : List Bid) (i : ℕ) (new : List Bid) (carried : Bid) (found : Bool) : Type 0 where
-  pub long : length new ≡ length old
-  pub same : drop i new ≡ drop i old
-  pub whole : take i new ++ behind x found carried (drop i (take n old)) ≡ entered x (take n old)
-  pub unfound : found ≡ false → carried ≡ x
-
-pub entering_start : (n : ℕ) (x : Bid) (old : List Bid) → Entering n x old 0 old x false
-entering_start n x old = record { long = refl; same = refl; whole = refl; unfound = λ _. refl }
-
-module _ (n : ℕ) (x : Bid) (old : List Bid) (i : ℕ) (new : List Bid) (carried : Bid) (found : Bool) (inv : Entering n x old i new carried found) (less : i < n) (room : n < length old) where
-  abbrev y : Bid
-  y = get_or new i no_bid
-
-  abbrev rest : List Bid
-  rest = drop (i + 1) (take n old)
-
-  in_new : i < length new
-  in_new = omega (arith, inv.long)
-
-  in_old : i < length old
-  in_old = omega arith
-
-  heads : (y ≡ get_or old i no_bid) × (drop (i + 1) new ≡ drop (i + 1) old)
-  heads =
-      let a : drop i new ≡ get_or new i no_bid ∷ drop (i + 1) new = at_drop_more (λ zs. zs) new i no_bid in_new in
-      let b : drop i old ≡ get_or old i no_bid ∷ drop (i + 1) old = at_drop_more (λ zs. zs) old i no_bid in_old in
-      let e = inv.same in
-      (cc, cc)
-
-  opened : drop i (take n old) ≡ y ∷ rest
-  opened =
-      let l : i < length (take n old) = simp length-take (omega arith) in
-      at_drop_more (λ zs. zs) (take n old) i no_bid l ∙ ap (λ z. z ∷ rest) (get_or-take n old i no_bid less ∙ sym heads.0)
-
-  whole_now : take i new ++ behind x found carried (y ∷ rest) ≡ entered x (take n old)
-  whole_now = ap (λ zs. take i new ++ behind x found carried zs) (sym opened) ∙ inv.whole
-
-  -- the carried bid is written, and the one that stood there is carried on
-  pub entering_moved : (found ≡ true) ⊎ ((found ≡ false) × (lt_z y.price x.price ≡ true)) → Entering n x old (i + 1) (set new i carried) y true
-  entering_moved why = record {
-    long = length-set new i carried ∙ inv.long;
-    same = drop-set-lt (i + 1) new i carried (omega arith) ∙ heads.1;
-    whole = ap (λ zs. zs ++ (y ∷ rest)) (take_more_set new i carried in_new) ∙ append_assoc (take i new) (carried ∷ []) (y ∷ rest) ∙ ap (λ zs. take i new ++ zs) (sym (moved why)) ∙ whole_now;
-    unfound = λ q. absurd (both_ways true q refl);
-  }
-    where
-      moved : (found ≡ true) ⊎ ((found ≡ false) × (lt_z y.price x.price ≡ true)) → behind x found carried (y ∷ rest) ≡ carried ∷ y ∷ rest
-      moved (inl q) = ap (λ t. cond t (carried ∷ y ∷ rest) (entered x (y ∷ rest))) q
-      moved (inr q) = ap (λ t. cond t (carried ∷ y ∷ rest) (entered x (y ∷ rest))) q.0 ∙ ap (λ t. cond t (x ∷ y ∷ rest) (y ∷ entered x rest)) q.1 ∙ ap (λ z. z ∷ y ∷ rest) (sym (inv.unfound q.0))
-
-  -- a bid of the same price or above stays
-  pub entering_kept : found ≡ false → lt_z y.price x.price ≡ false → Entering n x old (i + 1) new carried found
-  entering_kept q less' = record {
-    long = inv.long;
-    same = heads.1;
-    whole = ap (λ zs. zs ++ behind x found carried rest) (take_more new i no_bid in_new) ∙ append_assoc (take i new) (y ∷ []) (behind x found carried rest) ∙ ap (λ zs. take i new ++ zs) (sym kept) ∙ whole_now;
-    unfound = inv.unfound;
-  }
-    where
-      kept : behind x found carried (y ∷ rest) ≡ y ∷ behind x found carried rest
-      kept = ap (λ t. cond t (carried ∷ y ∷ rest) (entered x (y ∷ rest))) q ∙ ap (λ t. cond t (x ∷ y ∷ rest) (y ∷ entered x rest)) less' ∙ ap (λ t. y ∷ cond t (carried ∷ rest) (entered x rest)) (sym q)
-
-pub entering_ended : (n : ℕ) (x : Bid) (old : List Bid) (i : ℕ) (new : List Bid) (carried : Bid) (found : Bool) → Entering n x old i new carried found → i ≡ n → n < length old → take (n + 1) (set new n carried) ≡ entered x (take n old)
-entering_ended n x old i new carried found inv e room =
-    let l : n < length new = omega (arith, inv.long) in
-    take_more_set new n carried l ∙ ap (λ zs. take n new ++ zs) (sym (last found refl)) ∙ subst P e inv.whole
+-- where the first lower one is looked for, that is found
+pub place_is : (x : Bid) (xs : List Bid) (n : ℕ) (r : Option ℕ) (p : ℕ) → length xs ≡ n → r ≡ position (λ y. lt_z y.price x.price) xs → p ≡ unwrap_or r n → p ≡ before x xs
+place_is x xs n r p long is e = e ∙ ap (λ o. unwrap_or o n) is ∙ go (cases_lt (before x xs) (length xs))
   where
-    P : ℕ → Type 0
-    P j = take j new ++ behind x found carried (drop j (take n old)) ≡ entered x (take n old)
+    go : (before x xs < length xs) ⊎ (length xs ≤ before x xs) → unwrap_or (position (λ y. lt_z y.price x.price) xs) n ≡ before x xs
+    go (inl h) = let t : ltb (before x xs) (length xs) ≡ true = lt-ltb (before x xs) (length xs) h in rw t refl
+    go (inr h) = let m = prefix_len-le-length (λ (y : Bid). not (lt_z y.price x.price)) xs in let t : ltb (before x xs) (length xs) ≡ false = le-ltb (before x xs) (length xs) h in let q : n ≡ before x xs = omega arith in rw (t, q) refl
 
-    none : drop n (take n old) ≡ []
-    none = at_drop_all (λ zs. zs) (take n old) n (simp length-take (omega arith))
+-- the bid on the last place, turned to its own, with the bids that move on behind it
+pub turned_in : (xs : List Bid) (n p : ℕ) (x : Bid) (ys : List Bid) → n < length xs → p ≤ n
+    → ys ≡ drop (length (mid_of p (n + 1 - p) (set xs n x)) - 1) (mid_of p (n + 1 - p) (set xs n x)) ++ take (length (mid_of p (n + 1 - p) (set xs n x)) - 1) (mid_of p (n + 1 - p) (set xs n x))
+    → take (n + 1) (put_mid p (n + 1 - p) (set xs n x) ys) ≡ take p (take n xs) ++ x ∷ drop p (take n xs)
+turned_in xs n p x ys h within is =
+    let zs = set xs n x in
+    let long : length (take n xs) ≡ n = length-take-le n xs (omega arith) in
+    let mid : mid_of p (n + 1 - p) zs ≡ drop p (take n xs) ++ x ∷ [] =
+    sym (drop-take p (n + 1 - p) zs) ∙ ap (λ m. drop p (take m zs)) (sum_is p n within) ∙ ap (drop p) (take_more_set xs n x h) ∙ drop-append-le p (take n xs) (x ∷ []) (omega arith) in
+    let rest : length (drop p (take n xs)) ≡ n - p = length-drop p (take n xs) ∙ ap (λ m. m - p) long in
+    let turned : ys ≡ x ∷ drop p (take n xs) = is ∙ ap (λ m. drop (length m - 1) m ++ take (length m - 1) m) mid ∙ last_first (drop p (take n xs)) in
+    let len : length ys ≡ suc (n - p) = ap length turned ∙ ap suc rest in
+    let whole : n + 1 ≡ p + length ys = omega (arith, len) in
+    let room : p ≤ length (set xs n x) = simp length-set (omega arith) in
+    take-put_mid p (n + 1 - p) zs ys (n + 1) whole room
+    ∙ ap (λ us. us ++ ys) (take-set-le p xs n x within ∙ sym (take-take p n xs within))
+    ∙ ap (λ us. take p (take n xs) ++ us) turned
+  where
+    sum_is : (p n : ℕ) → p ≤ n → p + (n + 1 - p) ≡ n + 1
+    sum_is p n h = omega arith
 
-    last : (t : Bool) → found ≡ t → behind x found carried (drop n (take n old)) ≡ carried ∷ []
-    last true q = ap (behind x found carried) none ∙ ap (λ t. cond t (carried ∷ []) (x ∷ [])) q
-    last false q = ap (behind x found carried) none ∙ ap (λ t. cond t (carried ∷ []) (x ∷ [])) q ∙ ap (λ z. z ∷ []) (sym (inv.unfound q))
+    last_first : (us : List Bid) → drop (length (us ++ x ∷ []) - 1) (us ++ x ∷ []) ++ take (length (us ++ x ∷ []) - 1) (us ++ x ∷ []) ≡ x ∷ us
+    last_first us =
+        let e : length us ≡ length (us ++ x ∷ []) - 1 = omega (arith, length-append us (x ∷ [])) in
+        rw (drop_at us (x ∷ []) (length (us ++ x ∷ []) - 1) e, take_at us (x ∷ []) (length (us ++ x ∷ []) - 1) e) refl

@@ -1,2 +1,5 @@
+pub mod Deals
+pub mod Publishing
+pub mod Soundness
 pub mod Tests
 pub mod View

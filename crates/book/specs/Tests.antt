@@ -1,54 +1,64 @@
 -- The tests of the longer calls in two parts, those of the input and those of the state, as the code makes them. Assumes nothing.
-use Rattle.std.specs.Prelude.{◌≡◌, ℕ, ◌+◌, ◌*◌, ◌<◌, Bool, not, ◌&&◌, List, [], ◌∷◌, length, take, ℤ, pos, negsuc, ◌≤ℤ◌, Some, None, Ok, Err, Result, int_le, int_lt, nat_le, nat_lt, unsigned_abs}
-use Rattle.rules.specs.declared.call.Call.TheVariants.{Bid as Offers}
-use Rattle.book.specs.declared.book.Standing.{Standing}
+use Rattle.std.specs.Prelude.{◌≡◌, ℕ, ◌+◌, ◌*◌, Bool, true, false, not, ◌&&◌, List, [], ◌∷◌, length, take, ℤ, Some, None, Ok, Err, Option, Result, ◌==◌, nat_le, nat_lt, slice_index_or, unsigned_abs}
+use Rattle.book.specs.declared.standing.Standing.{Standing}
 use Rattle.terms.specs.declared.plan.Plan.{Plan}
 use Rattle.terms.specs.declared.refusal.Refusal.{Refusal}
-use Rattle.terms.specs.declared.refusal.Refusal.TheVariants.{UnknownParty, AmountOutOfRange, UnknownKind, PriceOutOfRange, NoSuchDay, NotAdmitted, AuctionStands, BidsFull, CapPassed, OfferAboveMatured, NumbersUsedUp, DayOutOfOrder}
+use Rattle.terms.specs.declared.refusal.Refusal.TheVariants.{UnknownParty, AmountOutOfRange, UnknownKind, PriceOutOfRange, NoSuchDay, NotAdmitted, AuctionStands, WrongTicket, BidsFull, CapPassed, OfferAboveMatured, NumbersUsedUp, DayOutOfOrder, NoFreePosting, HedgeNotOpen, NoFixYet}
 use Rattle.terms.specs.Ranges.{is_institution, is_millions}
+use Rattle.terms.specs.declared.rate.Rate.{Rate}
+use Rattle.terms.specs.Refusals.{first}
+use Rattle.portfolio.specs.Ending.{none_open}
+use Rattle.portfolio.specs.View.{placed_of}
+use Rattle.rules.specs.declared.auction.Kind.{Kind}
+use Rattle.rules.specs.declared.auction.Kind.TheVariants.{Initial, Maturity}
+use Rattle.rules.specs.declared.auction.TicketName.{TicketName}
 use Rattle.rules.specs.declared.auction.Terms.{Terms}
 use Rattle.rules.specs.declared.auction.Bid.{Bid}
 use Rattle.rules.specs.declared.hedge.Desk.{Desk}
 use Rattle.rules.specs.Allotment.{millions_of}
-use Rattle.rules.specs.Books.{stands, bidding}
+use Rattle.rules.specs.Books.{stands, holds}
 use Rattle.rules.specs.Numbers.{is_kind}
 use Rattle.rules.specs.Rules.{is_business, is_price}
-use Rattle.book.specs.View.{auction_of, Refuses}
+use Rattle.book.specs.Soundness.{no_desk}
+use Rattle.book.specs.View.{auction_of}
 use Rattle.book.specs.declared.book.Book.{Book}
+
+-- an auction whose bids are units over the current rate
+abbrev pub is_maturity : Kind → Bool
+is_maturity Initial = false
+is_maturity Maturity = true
 
 -- announce: amounts, kind, maturity day
 abbrev pub announce_input : Plan → ℤ → ℤ → ℤ → ℤ → List (Refusal × Bool)
 announce_input P k o c m = (AmountOutOfRange, not (is_millions o && is_millions c)) ∷ (UnknownKind, not (is_kind k)) ∷ (NoSuchDay, not (is_business P m)) ∷ []
 
 -- announce: the standing auction, matured dollars, numbers, the current day
-abbrev pub announce_state : Book → ℤ → ℤ → ℤ → List (Refusal × Bool)
-announce_state b k o m =
-    (AuctionStands, stands (auction_of b.auction (take b.taken b.bids))) ∷ (OfferAboveMatured, int_lt (pos 0) k && nat_lt b.matured (1000000 * unsigned_abs o)) ∷ (NumbersUsedUp, nat_le 100000 b.auctions) ∷ (DayOutOfOrder, int_le m (pos b.day)) ∷ []
+abbrev pub announce_state : Book → Terms → List (Refusal × Bool)
+announce_state b t =
+    (AuctionStands, stands (auction_of b.auction (take b.taken b.bids))) ∷ (OfferAboveMatured, is_maturity t.kind && nat_lt b.matured (1000000 * t.offer)) ∷ (NumbersUsedUp, nat_le 100000 b.auctions) ∷ (DayOutOfOrder, nat_le t.maturity b.day) ∷ []
 
--- what announce's input is known to be once its tests are passed
-abbrev pub InRange : ℤ → ℤ → ℤ → Type 0
-InRange o c m = (pos 1 ≤ℤ o) × (o ≤ℤ pos 2000) × (pos 1 ≤ℤ c) × (c ≤ℤ pos 2000) × (pos 0 ≤ℤ m) × (m ≤ℤ pos 30314)
+-- the standing auction, if the ticket is its own; otherwise the ticket is wrong
+abbrev pub UnderTicket : Option Standing → TicketName → Result Standing Refusal → Type 0
+UnderTicket o t (Ok a) = (o ≡ Some a) × (a.ticket ≡ t)
+UnderTicket o t (Err why) = ((bids : List Bid) → holds (auction_of o bids) t ≡ false) × (why ≡ WrongTicket)
 
 -- bid, once the ticket is the standing auction's: institution, millions, price
-abbrev pub bid_input : Terms → ℕ → ℤ → ℤ → ℤ → List (Refusal × Bool)
-bid_input t rate i p m = (UnknownParty, not (is_institution i)) ∷ (AmountOutOfRange, not (is_millions m)) ∷ (PriceOutOfRange, not (is_price t.kind rate p)) ∷ []
+abbrev pub bid_input : Kind → ℕ → ℤ → ℤ → ℤ → List (Refusal × Bool)
+bid_input kind rate i p m = (UnknownParty, not (is_institution i)) ∷ (AmountOutOfRange, not (is_millions m)) ∷ (PriceOutOfRange, not (is_price kind rate p)) ∷ []
 
 -- and then: admission, room for a bid, the cap
-abbrev pub bid_state : Terms → List Bid → Desk → ℤ → ℤ → List (Refusal × Bool)
-bid_state t bids desk i m = (NotAdmitted, not desk.admitted) ∷ (BidsFull, nat_le 64 (length bids)) ∷ (CapPassed, nat_lt t.cap (millions_of (unsigned_abs i) bids + unsigned_abs m)) ∷ []
+abbrev pub bid_state : Terms → List Bid → Desk → Bid → List (Refusal × Bool)
+bid_state t bids desk x = (NotAdmitted, not desk.admitted) ∷ (BidsFull, nat_le 64 (length bids)) ∷ (CapPassed, nat_lt t.cap (millions_of x.institution bids + x.millions)) ∷ []
 
--- what a bid's input is known to be once its tests are passed
-abbrev pub BidInRange : ℤ → ℤ → ℤ → Type 0
-BidInRange i p m = (pos 1 ≤ℤ i) × (i ≤ℤ pos 16) × (negsuc 9998 ≤ℤ p) × (p ≤ℤ pos 999999) × (pos 1 ≤ℤ m) × (m ≤ℤ pos 2000)
+-- a question for an institution: refused if it is none, or is not admitted
+abbrev pub desk_tests : List Desk → ℤ → List (Refusal × Bool)
+desk_tests desks i = (UnknownParty, not (is_institution i)) ∷ (NotAdmitted, not (slice_index_or desks (unsigned_abs i) no_desk).admitted) ∷ []
 
--- a bid that is taken: the standing auction is the ticket's, the input is in range, and there is room
-pub record Taken (k : Book) (n : ℕ) (i p m : ℤ) (a : Standing) : Type 0 where
-  pub untested : Refuses k (Offers n i p m) None
-  pub stood : k.auction ≡ Some a
-  pub ticket : a.ticket ≡ bidding n
-  pub ranges : BidInRange i p m
-  pub room : k.taken < 64
+-- terminate: a free posting, an open hedge of that number, a fix so far
+abbrev pub end_tests : ℕ → Book → ℤ → List (Refusal × Bool)
+end_tests free k hedge = (NoFreePosting, (free == 0)) ∷ (HedgeNotOpen, none_open hedge (placed_of k.portfolio)) ∷ (NoFixYet, (k.rate == 0)) ∷ []
 
-abbrev pub Judged : Book → ℕ → ℤ → ℤ → ℤ → Result Standing Refusal → Type 0
-Judged k n i p m (Ok a) = Taken k n i p m a
-Judged k n i p m (Err why) = Refuses k (Offers n i p m) (Some why)
+-- the current rate where no test holds, otherwise the refusal
+abbrev pub EndJudged : ℕ → Book → ℤ → Result Rate Refusal → Type 0
+EndJudged free k hedge (Ok rate) = (None ≡ first (end_tests free k hedge)) × (rate.units ≡ k.rate)
+EndJudged free k hedge (Err why) = Some why ≡ first (end_tests free k hedge)

@@ -3,35 +3,11 @@ ghost use Rattle.rules.specs.Books.{opened};
 ghost use Rattle.book.specs.View.{books_of};
 
 use crate::book::Book;
+use allotment::MOST_BIDS;
+use portfolio::portfolio::Portfolio;
 use rules::auction::Bid;
-use rules::hedge::{Deal, Desk, Hedge};
+use rules::hedge::Desk;
 use terms::plan::Plan;
-
-const NO_BID: Bid = Bid {
-    institution: 0,
-    price: 0,
-    millions: 0,
-};
-
-const NO_HEDGE: Hedge = Hedge {
-    deal: Deal {
-        number: 0,
-        institution: 0,
-        dollars: 0,
-        assigned: 0,
-        maturity: 0,
-    },
-    settled: 0,
-    since: 0,
-    live: false,
-};
-
-const NO_DESK: Desk = Desk {
-    admitted: false,
-    collateral: 0,
-    value: 0,
-    requirement: 0,
-};
 
 impl Book {
     // The tables of a house just made of a checked plan.
@@ -45,13 +21,11 @@ impl Book {
             rate: 0,
             auction: None,
             auctions: 0,
-            bids: [NO_BID; 64],
+            bids: [Bid::default(); MOST_BIDS],
             taken: 0,
-            hedges: [NO_HEDGE; 128],
-            placed: 0,
-            numbered: 0,
+            portfolio: Portfolio::new(),
             matured: 0,
-            desks: [NO_DESK; 17],
+            desks: [Desk::default(); 17],
         }
     }
 }

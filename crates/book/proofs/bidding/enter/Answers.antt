@@ -1,22 +1,18 @@
-use Rattle.std.proofs.Common.{sym, inl, inr, arith}
-use Rattle.book.proofs.Bids.{entering_start, entering_moved, entering_kept, entering_ended}
+use Rattle.std.proofs.Common.{◌≡◌, ◌≤◌, not, ◌++◌, ◌∷◌, drop, length, take, sym, ap, ◌∙◌, arith}
+use lib.Signed.{lt_z}
+use Rattle.std.proofs.lemmas.List.{length-take-le}
+use Rattle.std.proofs.lemmas.List.Sums.{prefix_len-le-length}
+use Rattle.rules.specs.declared.auction.Bid.{Bid}
+use Rattle.book.proofs.Bids.{entered-at, place_is, turned_in}
 use Rattle.book.proofs.bidding.enter.Goals as goal
-use Rattle.book.proofs.bidding.enter.Goals.{then-found, then-found-via-then-found, then-found-via-else-found+then-is_lower, else-found+else-is_lower}
-
-pub loop-i-init : goal.loop-i-init
-loop-i-init c = entering_start c.args.taken c.args.bid c.args.bids.now
-
-pub loop-i-preserved : goal.loop-i-preserved
-loop-i-preserved c =
-    let moved = entering_moved c.args.taken c.args.bid c.args.bids.now c.loop-i.i c.loop-i.bids c.loop-i.carried c.loop-i.found c.loop-i.invariant c.loop-i-test.true c.requires in
-    let kept = entering_kept c.args.taken c.args.bid c.args.bids.now c.loop-i.i c.loop-i.bids c.loop-i.carried c.loop-i.found c.loop-i.invariant c.loop-i-test.true c.requires in
-    elim c.if-found.branch [
-      | then-found w ↦ simp (w.bids-is, w.carried-is, w.found-is) (elim w.then-found.branch [
-        | then-found-via-then-found w' ↦ moved (inl w'.if-found.true)
-        | then-found-via-else-found+then-is_lower w' ↦ moved (inr (w'.if-found.false, sym w'.if-is_lower.ensures))
-      ])
-      | else-found+else-is_lower w ↦ simp (w.bids-is, w.carried-is, w.found-is) (kept w.if-found.false (sym w.if-is_lower.ensures))
-    ]
 
 pub returns : goal.returns
-returns c = entering_ended c.args.taken c.args.bid c.args.bids.now c.loop-i.i c.loop-i.bids c.loop-i.carried c.loop-i.found c.loop-i.invariant (omega arith) c.requires
+returns c =
+    let xs = take c.args.taken c.args.bids.now in
+    let long : length xs ≡ c.args.taken = length-take-le c.args.taken c.args.bids.now (omega arith) in
+    let place = place_is c.args.bid xs c.args.taken c.first_lower.result c.unwrap_or-place.result long c.first_lower.ensures c.unwrap_or-place.ensures in
+    let most = prefix_len-le-length {X = Bid} (λ (y : Bid). not (lt_z y.price c.args.bid.price)) xs in
+    let within : c.unwrap_or-place.result ≤ c.args.taken = omega (arith, most, place, long) in
+    turned_in c.args.bids.now c.args.taken c.unwrap_or-place.result c.args.bid c.rotate_right.new.self c.requires within
+    c.rotate_right.ensures.after
+    ∙ ap (λ p. take p xs ++ c.args.bid ∷ drop p xs) place ∙ sym (entered-at c.args.bid xs)

@@ -1,21 +1,24 @@
-use Rattle.std.proofs.Common.{◌<◌, length, nat_abs, refl, arith}
+use Rattle.std.proofs.Common.{◌<◌, length, nat_abs, Err, refl, ap, ◌∙◌, arith}
 use Rattle.std.proofs.lemmas.Int.{ints, to_z-of_z}
+use Rattle.std.proofs.lemmas.Result.{err_from_is_err_and}
 use Rattle.rules.specs.declared.call.Call.TheVariants.{Lodge}
-use Rattle.book.proofs.Steps.{refused, desk_written}
+use Rattle.book.proofs.Steps.{tested_error, tested_passed, desk_written}
 use Rattle.book.proofs.book.Book.lodge.Goals as goal
 
-pub returns-in-Some : goal.returns-in-Some
-returns-in-Some c =
+pub returns-in_err-test_lodge : goal.returns-in_err-test_lodge
+returns-in_err-test_lodge c =
     let f = c.ranges.institution in
     let g = c.ranges.centavos in
-    refused c.args.self.now (Lodge c.args.institution c.args.centavos) c.in-Some.why (simp to_z-of_z at c.in-Some.ensures.number)
+    let p = err_from_is_err_and c.from_residual.result c.from_residual.ensures.1 in
+    tested_error c.args.self.now (Lodge c.args.institution c.args.centavos) c.in_err-test_lodge.field-0.0 c.from_residual.result (p.1 ∙ ap Err p.2) (simp to_z-of_z at c.in_err-test_lodge.ensures.answer)
 
-pub returns-in-None : goal.returns-in-None
-returns-in-None c =
+pub returns : goal.returns
+returns c =
     let f = c.ranges.institution in
     let g = c.ranges.centavos in
     let k = c.args.self.now in
-    let q = c.in-None.ensures.passed in
-    let n = k.sized.2 in
-    let lt : nat_abs c.args.institution < length k.desks = omega (arith, ints, q.0, q.1) in
-    (simp to_z-of_z (desk_written k (Lodge c.args.institution c.args.centavos) (nat_abs c.args.institution) _ lt (simp to_z-of_z at c.in-None.ensures.number) (λ T C balance free. refl)), refl)
+    let call = Lodge c.args.institution c.args.centavos in
+    let q = c.in_ok-test_lodge.ensures in
+    let n = k.sized.1 in
+    let lt : nat_abs c.args.institution < length k.desks = omega (arith, ints, q.passed.0, q.passed.1) in
+    record { steps = (simp to_z-of_z (desk_written k call (nat_abs c.args.institution) _ lt (tested_passed k call (simp to_z-of_z at q.answer)) (λ T C balance free. refl))); plan = refl }

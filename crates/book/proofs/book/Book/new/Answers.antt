@@ -1,21 +1,16 @@
-use Rattle.std.proofs.Common.{◌≡◌, ℕ, get_or, ap, ◌∙◌, inl, inr}
-use Rattle.std.proofs.Math.Path.{fun_ext}
-use Rattle.std.proofs.Math.ListN.{replicate}
-use Rattle.std.proofs.lemmas.Bool.{cases_lt}
-use Rattle.std.proofs.lemmas.List.{get_or-replicate, get_or_past}
-use Rattle.rules.specs.Books.{Books, opened}
+use Rattle.std.proofs.Common.{◌≡◌, ℕ, replicate, get_or, pos, None, ap, ◌∙◌}
+use mathlib.Core.Path.{fun_ext}
 use Rattle.rules.specs.declared.hedge.Desk.{Desk}
-use Rattle.book.specs.View.{no_desk}
+use Rattle.book.specs.Soundness.{no_desk}
+use Rattle.book.proofs.Steps.{none_there}
 use Rattle.book.proofs.book.Book.new.Goals as goal
 
--- every desk of new tables is a desk of nobody
-no_desks : ◌≡◌ {A = ℕ → Desk} (λ i. get_or (replicate 17 no_desk) i no_desk) (λ _. no_desk)
-no_desks = fun_ext (λ i. elim (cases_lt i 17) [
-  | inl h ↦ get_or-replicate 17 i no_desk no_desk h
-  | inr h ↦ get_or_past (replicate 17 no_desk) i no_desk h
-])
-
 pub returns-clause-made : goal.returns-clause-made
-returns-clause-made c = λ free.
-    let made : ℕ → (ℕ → Desk) → Books = λ day desk. record (opened c.args.plan free) { day = day; desk = desk } in
-    ap (λ day. made day (λ i. get_or (replicate 17 no_desk) i no_desk)) c.start.ensures ∙ ap (λ desk. made c.args.plan.start desk) no_desks
+returns-clause-made c free =
+    let d = c.default-2.ensures in
+    let e : c.default-2.result ≡ no_desk = λ j. record { admitted = d.0 j; collateral = d.1.0 j; value = d.1.1.0 j; requirement = d.1.1.1 j } in
+    let desks : ◌≡◌ {A = ℕ → Desk} (λ i. get_or (replicate 17 c.default-2.result) i no_desk) (λ _. no_desk) = fun_ext (λ i. ap (λ (x : Desk). get_or (replicate 17 x) i no_desk) e ∙ none_there 17 i) in
+    let day = c.start.ensures in
+    let hedges = c.new.ensures.hedges in
+    let numbered = c.new.ensures.numbered in
+    λ j. record { day = day j; rate = 0; auction = None; auctions = 0; hedges = hedges j; numbered = numbered j; matured = 0; desk = desks j; balance = λ _. pos 0; free = free }
