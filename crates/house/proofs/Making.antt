@@ -4,8 +4,8 @@ use Rattle.tie_rules.specs.Sharing.{Sharing}
 use Rattle.conventions.specs.Deciding.{Deciding}
 use Rattle.rules.specs.declared.call.Call.{Call}
 use Rattle.rules.specs.Rules.{Told}
-use Rattle.tables.specs.View.{books_of, Tells}
-use Rattle.tables.specs.declared.book.Book.{Book}
+use Rattle.book.specs.View.{books_of, Tells}
+use Rattle.book.specs.declared.book.Book.{Book}
 use Rattle.house.specs.Posting.{by_party, Posts}
 use Rattle.house.specs.Calls.{Makes}
 use Rattle.house.specs.declared.house.House.{House}

@@ -3,23 +3,20 @@ use Rattle.std.specs.Prelude.{◌≡◌, ℕ, List, length, ℤ, pos, Ok, Err, R
 use Rattle.terms.specs.declared.refusal.Refusal.{Refusal}
 use Rattle.tie_rules.specs.Sharing.{Sharing}
 use Rattle.conventions.specs.Deciding.{Deciding}
-use Rattle.rules.specs.declared.auction.TicketName.{TicketName}
 use Rattle.rules.specs.declared.call.Call.{Call}
 use Rattle.rules.specs.declared.call.Call.TheVariants.{Fix}
-use Rattle.rules.specs.declared.call.Answer.{Answer}
-use Rattle.rules.specs.declared.call.Answer.TheVariants.{Refused, Ticket, Published}
-use Rattle.rules.specs.Books.{Books, bidding, sealed, opened}
+use Rattle.rules.specs.Numbers.{Answer}
+use Rattle.rules.specs.declared.call.Accepted.TheVariants.{Ticket, Published}
+use Rattle.rules.specs.Books.{Books, opened}
 use Rattle.terms.specs.declared.plan.Plan.{Plan}
 use Rattle.rules.specs.Rules.{Told, quietly, step}
-use Rattle.tables.specs.declared.publication.Publication.{Publication}
+use Rattle.book.specs.declared.publication.Publication.{Publication}
 use Rattle.rules.specs.declared.hedge.Line.{Line}
-use Rattle.tables.specs.View.{books_of, Does, Publishes, fixed_or, written_or}
+use Rattle.book.specs.View.{books_of, Does, Publishes, fixed_or, written_or}
 use Rattle.house.specs.Posting.{by_party}
 use Rattle.house.specs.declared.house.House.{House}
 use Rattle.house.specs.declared.tickets.BiddingTicket.{BiddingTicket}
 use Rattle.house.specs.declared.tickets.SealedTicket.{SealedTicket}
-use Rattle.house.specs.declared.tickets.Ticket.{Ticket as AnyTicket}
-use Rattle.house.specs.declared.tickets.Ticket.TheVariants as t
 use Rattle.house.specs.declared.tickets.Returned.{Returned}
 
 -- the books of a house: its tables over what its accounts hold
@@ -61,25 +58,20 @@ pub record Made {A T C : Type 0} (P : Plan) (accounts : A) (rule : T) (conventio
   pub books : (free : ℕ) → books_of (λ _. pos 0) free h.book ≡ opened P free
 
 -- ---- tickets
--- a ticket by its number and stage
-abbrev pub ticket_name : AnyTicket → TicketName
-ticket_name (t.Bidding k) = bidding k.number
-ticket_name (t.Sealed k) = sealed k.number
-
 -- announce gives the ticket that it answers
 abbrev pub announced_or : Result BiddingTicket Refusal → Answer
-announced_or (Ok k) = Ticket k.number
-announced_or (Err why) = Refused why
+announced_or (Ok k) = Ok (Ticket k.number)
+announced_or (Err why) = Err why
 
 -- seal gives the ticket that it answers, or the old one back
 abbrev pub sealed_or : Result SealedTicket (Returned BiddingTicket) → Answer
-sealed_or (Ok k) = Ticket k.number
-sealed_or (Err e) = Refused e.why
+sealed_or (Ok k) = Ok (Ticket k.number)
+sealed_or (Err e) = Err e.why
 
 -- publish spends the ticket, or gives it back
 abbrev pub published_or : Result Publication (Returned SealedTicket) → Answer
-published_or (Ok p) = Published p.first p.count
-published_or (Err e) = Refused e.why
+published_or (Ok p) = Ok (Published p.first p.count)
+published_or (Err e) = Err e.why
 
 -- a refusal gives back the very ticket
 abbrev pub GivesBack : {X Y : Type 0} → X → Result Y (Returned X) → Type 0

@@ -1,14 +1,14 @@
 ghost use Rattle.std.specs.Prelude.{◌≡◌};
 ghost use Rattle.rules.specs.declared.call.Call.TheVariants.{Admit, Announce, Bid, Seal, Void, Lodge, Release};
-ghost use Rattle.tables.specs.View.{done_or};
-ghost use Rattle.house.specs.Calls.{Allots, Quiet, ticket_name, announced_or, published_or, sealed_or, GivesBack};
+ghost use Rattle.book.specs.View.{done_or};
+ghost use Rattle.house.specs.Calls.{Allots, Quiet, announced_or, published_or, sealed_or, GivesBack};
+ghost use Rattle.house.specs.Tickets.{ticket_name};
 
 use crate::house::House;
 use crate::tickets::{BiddingTicket, Returned, SealedTicket, Ticket};
 use accounts::Accounts;
+use book::publication::Publication;
 use conventions::Convention;
-use rules::auction::{Stage, TicketName};
-use tables::publication::Publication;
 use terms::refusal::Refusal;
 use tie_rules::rule::TieRule;
 
@@ -30,10 +30,8 @@ impl<A: Accounts, T: TieRule, C: Convention> House<A, T, C> {
     ) -> Result<BiddingTicket, Refusal>
         ensures { Quiet self.old (Announce kind offer cap maturity) (announced_or result) self.new }
     {
-        match self.book.announce(kind, offer, cap, maturity) {
-            Ok(number) => Ok(BiddingTicket { number }),
-            Err(why) => Err(why),
-        }
+        let number = self.book.announce(kind, offer, cap, maturity)?;
+        Ok(BiddingTicket { number })
     }
 
     // Takes a bid under the bidding ticket.
@@ -81,16 +79,7 @@ impl<A: Accounts, T: TieRule, C: Convention> House<A, T, C> {
     pub fn void(&mut self, ticket: Ticket) -> Result<(), Refusal>
         ensures { Quiet self.old (Void (ticket_name ticket)) (done_or result) self.new }
     {
-        match ticket {
-            Ticket::Bidding(BiddingTicket { number }) => self.book.void(TicketName {
-                number,
-                stage: Stage::Bidding,
-            }),
-            Ticket::Sealed(SealedTicket { number }) => self.book.void(TicketName {
-                number,
-                stage: Stage::Sealed,
-            }),
-        }
+        self.book.void(ticket.spend())
     }
 
     // Raises an institution's collateral.

@@ -1,6 +1,6 @@
 use accounts::Accounts;
+use book::book::Book;
 use conventions::Convention;
-use tables::book::Book;
 use tie_rules::rule::TieRule;
 
 // Put together of accounts, a tie rule and a convention, beside the tables.

@@ -2,8 +2,8 @@ ghost use Rattle.house.specs.Calls.{Made};
 
 use crate::house::House;
 use accounts::Accounts;
+use book::book::Book;
 use conventions::Convention;
-use tables::book::Book;
 use terms::plan::Plan;
 use tie_rules::rule::TieRule;
 

@@ -12,7 +12,7 @@ pub(crate) fn post_line<A: Accounts>(accounts: &mut A, line: Line)
     requires some { 0 < A.Accounts.free accounts.old }
     ensures { Posts (line ∷ []) (A.Accounts.balances accounts.old) (A.Accounts.free accounts.old) (A.Accounts.balances accounts.new) (A.Accounts.free accounts.new) }
 {
-    let _ = pay(accounts, line.institution as i64, line.centavos);
+    let _ = pay(accounts, i64::from(line.institution), line.centavos);
 }
 
 // Posts each line between the bank and its institution.

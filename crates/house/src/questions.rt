@@ -2,7 +2,7 @@ ghost use Rattle.std.specs.Prelude.{◌≡◌, pos, if◌then◌else◌, Some, N
 ghost use Rattle.terms.specs.Refusals.{first, answered};
 ghost use Rattle.rules.specs.Rules.{ask, question_tests, position_of};
 ghost use Rattle.portfolio.specs.View.{placed_of};
-ghost use Rattle.tables.specs.View.{ticket_standing};
+ghost use Rattle.book.specs.View.{ticket_standing};
 ghost use Rattle.house.specs.Calls.{house_books};
 
 use crate::house::House;

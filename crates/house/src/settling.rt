@@ -1,5 +1,5 @@
 ghost use Rattle.rules.specs.declared.call.Call.TheVariants.{Terminate};
-ghost use Rattle.tables.specs.View.{ended_or};
+ghost use Rattle.book.specs.View.{ended_or};
 ghost use Rattle.house.specs.Calls.{Makes};
 
 use crate::house::House;
@@ -15,19 +15,9 @@ impl<A: Accounts, T: TieRule, C: Convention> House<A, T, C> {
     pub fn terminate(&mut self, hedge: i64) -> Result<Line, Refusal>
         ensures { Makes A.Accounts.balances A.Accounts.free T.TieRule.meaning C.Convention.meaning self.old (Terminate hedge) (ended_or result) self.new }
     {
-        self.end_and_post(hedge)
-    }
-
-    fn end_and_post(&mut self, hedge: i64) -> Result<Line, Refusal>
-        ensures { Makes A.Accounts.balances A.Accounts.free T.TieRule.meaning C.Convention.meaning self.old (Terminate hedge) (ended_or result) self.new }
-    {
         let free = self.accounts.free_postings();
-        match self.book.terminate(free, hedge) {
-            Err(why) => Err(why),
-            Ok(line) => {
-                post_line(&mut self.accounts, line);
-                Ok(line)
-            }
-        }
+        let line = self.book.terminate(free, hedge)?;
+        post_line(&mut self.accounts, line);
+        Ok(line)
     }
 }

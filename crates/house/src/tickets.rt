@@ -1,6 +1,8 @@
 // Tickets: a type for each stage of an auction. None can be let go: each is published or voided.
 ghost use Rattle.std.specs.Prelude.{◌≡◌};
+ghost use Rattle.house.specs.Tickets.{ticket_name};
 
+use rules::auction::{Stage, TicketName};
 use terms::refusal::Refusal;
 
 // Announce gives it; bids are made under it.
@@ -38,5 +40,34 @@ impl SealedTicket {
         ensures { result ≡ self.now.number }
     {
         self.number
+    }
+}
+
+impl Ticket {
+    // By its number and stage.
+    pub fn name(&self) -> TicketName
+        ensures { result ≡ ticket_name self.now }
+    {
+        match self {
+            Ticket::Bidding(ticket) => TicketName {
+                number: ticket.number,
+                stage: Stage::Bidding,
+            },
+            Ticket::Sealed(ticket) => TicketName {
+                number: ticket.number,
+                stage: Stage::Sealed,
+            },
+        }
+    }
+
+    // Only a call that voids may take a ticket apart.
+    pub(crate) fn spend(self) -> TicketName
+        ensures { result ≡ ticket_name self }
+    {
+        let name = self.name();
+        match self {
+            Ticket::Bidding(BiddingTicket { number: _ }) => name,
+            Ticket::Sealed(SealedTicket { number: _ }) => name,
+        }
     }
 }

@@ -5,7 +5,7 @@ use Rattle.terms.specs.declared.plan.Plan.{Plan}
 use Rattle.tie_rules.specs.Sharing.{Sharing}
 use Rattle.conventions.specs.Deciding.{Deciding}
 use Rattle.rules.specs.declared.call.Call.{Call}
-use Rattle.rules.specs.declared.call.Answer.{Answer}
+use Rattle.rules.specs.Numbers.{Answer}
 use Rattle.rules.specs.declared.hedge.Line.{Line}
 use Rattle.rules.specs.Books.{Books}
 use Rattle.rules.specs.Rules.{Told, quietly, step}
@@ -14,7 +14,7 @@ use Rattle.rules.proofs.Orders.{order_kept}
 use Rattle.rules.proofs.Penalties.{penalties-one_percent}
 use Rattle.rules.proofs.Questions.{law}
 use Rattle.rules.proofs.Sizes.{postings_fit}
-use Rattle.tables.specs.View.{books_of}
+use Rattle.book.specs.View.{books_of}
 use Rattle.house.specs.Posting.{by_party}
 use Rattle.house.specs.Calls.{Quiet, Makes}
 use Rattle.house.specs.declared.house.House.{House}

@@ -10,10 +10,10 @@ use Rattle.rules.specs.declared.auction.Stage.{Stage}
 use Rattle.rules.specs.declared.auction.Stage.TheVariants.{Bidding, Sealed}
 use Rattle.rules.specs.declared.auction.TicketName.{TicketName}
 use Rattle.rules.specs.declared.call.Call.TheVariants.{Void}
-use Rattle.rules.specs.declared.call.Answer.{Answer}
+use Rattle.rules.specs.Numbers.{Answer}
 use Rattle.rules.specs.Books.{Auction, Books, bidding, sealed, same_stage, same_ticket, holds, opened, with_auction}
 use Rattle.rules.specs.Rules.{Told, quietly, judged, answers, after, step}
-use Rattle.tables.specs.View.{books_of}
+use Rattle.book.specs.View.{books_of}
 use Rattle.house.specs.Posting.{by_party}
 use Rattle.house.specs.Calls.{house_books, Quiet, Made}
 use Rattle.house.specs.declared.house.House.{House}
@@ -21,8 +21,8 @@ use Rattle.room.specs.Hands.{hand_ticket, is_held, ticket_of}
 use Rattle.room.specs.Rooms.{Voided}
 use Rattle.room.specs.Runs.{New, closed}
 use Rattle.room.specs.Opening.{Opens, Closes}
-use Rattle.room.specs.declared.in_hand.InHand.{InHand}
-use Rattle.room.specs.declared.in_hand.InHand.TheVariants as hand
+use Rattle.house.specs.declared.tickets.Ticket.{Ticket}
+use Rattle.house.specs.declared.tickets.Ticket.TheVariants as t
 use Rattle.room.specs.declared.room.Room.{Room}
 use Rattle.room.proofs.Laws.{quiet_makes}
 use Rattle.room.proofs.Turning.{holds-is}
@@ -53,7 +53,7 @@ void_books : (P : Plan) (T : Sharing) (C : Deciding) (b b' : Books) (s : TicketN
 void_books P T C b b' s t h e = sym (ap (λ q. q.1) e) ∙ ap (λ (u : Bool). (judged (cond (not u) (Some WrongTicket) None) (answers P T C b (Void s)) b (after P T C b (Void s))).1) h
 
 module _ {A T C : Type 0} (balances : A → List ℤ) (free : A → ℕ) (shares : T → Sharing) (decides : C → Deciding) where
-  pub opens : (P : Plan) (accounts : A) (rule : T) (convention : C) (h : House A T C) → Made P accounts rule convention h → Opens balances free shares decides P accounts rule convention (record { house = h; hand = hand.Nothing })
+  pub opens : (P : Plan) (accounts : A) (rule : T) (convention : C) (h : House A T C) → Made P accounts rule convention h → Opens balances free shares decides P accounts rule convention (record { house = h; hand = None })
   opens P accounts rule convention h m = record {
     plan = m.plan;
     held = m.held;
@@ -69,7 +69,7 @@ module _ {A T C : Type 0} (balances : A → List ℤ) (free : A → ℕ) (shares
           ∙ m.books (free accounts)
           ∙ ap (λ (p : Plan). opened p (free accounts)) (sym m.plan)
 
-  abbrev Left : InHand → House A T C → House A T C → Type 0
+  abbrev Left : Option Ticket → House A T C → House A T C → Type 0
   Left k h h' = (hand_ticket k ≡ ticket_of (house_books balances free h).auction → house_books balances free h' ≡ closed (house_books balances free h))
       × (h'.book.plan ≡ h.book.plan) × (h'.tie_rule ≡ h.tie_rule) × (h'.convention ≡ h.convention)
 
@@ -77,15 +77,15 @@ module _ {A T C : Type 0} (balances : A → List ℤ) (free : A → ℕ) (shares
   voided s h h' x q l = void_books h.book.plan (shares h.tie_rule) (decides h.convention) (house_books balances free h) (house_books balances free h') s (quietly x)
       (holds-held (house_books balances free h).auction s l) (quiet_makes balances free shares decides h (Void s) x h' q).steps
 
-  left : (k : InHand) (h h' : House A T C) → Voided k h h' → Left k h h'
-  left hand.Nothing h h' e = (
+  left : (k : Option Ticket) (h h' : House A T C) → Voided k h h' → Left k h h'
+  left None h h' e = (
     λ l. ap (house_books balances free) e ∙ ap (λ (o : Option Auction). with_auction o h.book.auctions (house_books balances free h)) (no-auction (house_books balances free h).auction l),
     ap (λ (y : House A T C). y.book.plan) e,
     ap (λ (y : House A T C). y.tie_rule) e,
     ap (λ (y : House A T C). y.convention) e,
   )
-  left (hand.Bidding k) h h' v = (λ l. voided (bidding k.number) h h' v.0 v.1 l, v.1.tables.plan, v.1.rule, v.1.convention)
-  left (hand.Sealed k) h h' v = (λ l. voided (sealed k.number) h h' v.0 v.1 l, v.1.tables.plan, v.1.rule, v.1.convention)
+  left (Some (t.Bidding k)) h h' v = (λ l. voided (bidding k.number) h h' v.0 v.1 l, v.1.tables.plan, v.1.rule, v.1.convention)
+  left (Some (t.Sealed k)) h h' v = (λ l. voided (sealed k.number) h h' v.0 v.1 l, v.1.tables.plan, v.1.rule, v.1.convention)
 
   pub closes : (d : Room A T C) (h' : House A T C) → Voided d.hand d.house h' → Closes balances free shares decides d h'
   closes d h' v = let p = left d.hand d.house h' v in record { books = p.0; plan = p.1; rule_is = p.2; convention_is = p.3 }

@@ -4,7 +4,7 @@ use Rattle.house.proofs.Postings.{take-capped}
 use Rattle.tie_rules.specs.Sharing.{Sharing}
 use Rattle.conventions.specs.Deciding.{Deciding}
 use Rattle.rules.specs.declared.call.Call.{Call}
-use Rattle.rules.specs.declared.call.Answer.{Answer}
+use Rattle.rules.specs.Numbers.{Answer}
 use Rattle.rules.specs.declared.hedge.Line.{Line}
 use Rattle.room.specs.Rooms.{room_books, Turns, told_by, lines_told}
 use Rattle.room.specs.Runs.{meant}

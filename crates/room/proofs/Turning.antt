@@ -1,5 +1,5 @@
 -- The ticket in hand, over each call.
-use Rattle.std.proofs.Common.{◌≡◌, ℕ, suc, ◌+◌, Bool, true, false, cond, not, ◌&&◌, ◌||◌, eqb, ltb, List, [], ◌∷◌, ◌++◌, length, take, drop, set, ℤ, pos, Some, None, Option, sym, refl, ap, ◌∙◌, subst, arith}
+use Rattle.std.proofs.Common.{Err, Ok, ◌≡◌, ℕ, suc, ◌+◌, Bool, true, false, cond, not, ◌&&◌, ◌||◌, eqb, ltb, List, [], ◌∷◌, ◌++◌, length, take, drop, set, ℤ, pos, Some, None, Option, sym, refl, ap, ◌∙◌, subst, arith}
 use lib.Signed.{le_z}
 use Rattle.std.proofs.lemmas.Bool.{both_ways, and_parts, eqb-true, ne_eqb, eq-eqb}
 use Rattle.terms.specs.declared.plan.Plan.{Plan}
@@ -14,15 +14,15 @@ use Rattle.rules.specs.declared.auction.Stage.TheVariants.{Bidding, Sealed}
 use Rattle.rules.specs.declared.auction.TicketName.{TicketName}
 use Rattle.rules.specs.declared.call.Call.{Call}
 use Rattle.rules.specs.declared.call.Call.TheVariants as c
-use Rattle.rules.specs.declared.call.Answer.{Answer}
-use Rattle.rules.specs.declared.call.Answer.TheVariants as a
+use Rattle.rules.specs.Numbers.{Answer}
+use Rattle.rules.specs.declared.call.Accepted.TheVariants as a
 use Rattle.rules.specs.Books.{Auction, Books, bidding, sealed, same_stage, same_ticket, stands, holds}
 use Rattle.rules.specs.declared.hedge.Line.{Line}
 use Rattle.rules.specs.Settlement.{open_ones}
 use Rattle.rules.specs.Rules.{Told, quietly, is_business, skipped, admitted_ones, judged, tests, answers, after, step}
 use Rattle.rules.proofs.Runs.{passed}
-use Rattle.tables.specs.View.{books_of}
-use Rattle.tables.proofs.Steps.{refusing}
+use Rattle.book.specs.View.{books_of}
+use Rattle.book.proofs.Steps.{refusing}
 use Rattle.house.specs.Posting.{by_party}
 use Rattle.house.specs.Calls.{house_books, Allots, Makes}
 use Rattle.house.specs.declared.house.House.{House}
@@ -30,8 +30,8 @@ use Rattle.house.specs.declared.tickets.BiddingTicket.{BiddingTicket}
 use Rattle.house.specs.declared.tickets.SealedTicket.{SealedTicket}
 use Rattle.room.specs.Hands.{hand_ticket, is_held, ticket_of}
 use Rattle.room.specs.Rooms.{room_books, Live, Turns}
-use Rattle.room.specs.declared.in_hand.InHand.{InHand}
-use Rattle.room.specs.declared.in_hand.InHand.TheVariants as hand
+use Rattle.house.specs.declared.tickets.Ticket.{Ticket}
+use Rattle.house.specs.declared.tickets.Ticket.TheVariants as t
 use Rattle.room.specs.declared.room.Room.{Room}
 use Rattle.room.proofs.Laws.{turns}
 
@@ -61,49 +61,45 @@ stands-none : (o : Option Auction) → stands o ≡ false → ticket_of o ≡ No
 stands-none None e = refl
 stands-none (Some x) e = absurd (both_ways true e refl)
 
-hand_none : (k : InHand) → hand_ticket k ≡ None → k ≡ hand.Nothing
-hand_none hand.Nothing e = refl
-hand_none (hand.Bidding t) e = let z : ◌≡◌ {A = ℕ} 0 1 = cc in absurd (omega arith)
-hand_none (hand.Sealed t) e = let z : ◌≡◌ {A = ℕ} 0 1 = cc in absurd (omega arith)
+hand_none : (k : Option Ticket) → hand_ticket k ≡ None → k ≡ None
+hand_none None e = refl
+hand_none (Some (t.Bidding t)) e = let z : ◌≡◌ {A = ℕ} 0 1 = cc in absurd (omega arith)
+hand_none (Some (t.Sealed t)) e = let z : ◌≡◌ {A = ℕ} 0 1 = cc in absurd (omega arith)
 
 -- ---- whether a ticket is in hand
 and_none : (x : Bool) → x && false ≡ false
 and_none true = refl
 and_none false = refl
 
-pub held_none : (k : InHand) (s : TicketName) → k ≡ hand.Nothing → is_held (hand_ticket k) s ≡ false
+pub held_none : (k : Option Ticket) (s : TicketName) → k ≡ None → is_held (hand_ticket k) s ≡ false
 held_none k s e = ap (λ h. is_held (hand_ticket h) s) e
 
-pub held_sealed : (k : InHand) (x : SealedTicket) (n : ℕ) → k ≡ hand.Sealed x → is_held (hand_ticket k) (bidding n) ≡ false
+pub held_sealed : (k : Option Ticket) (x : SealedTicket) (n : ℕ) → k ≡ Some (t.Sealed x) → is_held (hand_ticket k) (bidding n) ≡ false
 held_sealed k x n e = ap (λ h. is_held (hand_ticket h) (bidding n)) e ∙ and_none (eqb x.number n)
 
-pub held_bidding : (k : InHand) (x : BiddingTicket) (n : ℕ) → k ≡ hand.Bidding x → is_held (hand_ticket k) (sealed n) ≡ false
+pub held_bidding : (k : Option Ticket) (x : BiddingTicket) (n : ℕ) → k ≡ Some (t.Bidding x) → is_held (hand_ticket k) (sealed n) ≡ false
 held_bidding k x n e = ap (λ h. is_held (hand_ticket h) (sealed n)) e ∙ and_none (eqb x.number n)
 
-pub held_other_bidding : (k : InHand) (x : BiddingTicket) (n : ℕ) → k ≡ hand.Bidding x → (x.number ≡ n → ⊥) → is_held (hand_ticket k) (bidding n) ≡ false
+pub held_other_bidding : (k : Option Ticket) (x : BiddingTicket) (n : ℕ) → k ≡ Some (t.Bidding x) → (x.number ≡ n → ⊥) → is_held (hand_ticket k) (bidding n) ≡ false
 held_other_bidding k x n e ne = ap (λ h. is_held (hand_ticket h) (bidding n)) e ∙ ap (λ t. t && true) (ne_eqb x.number n ne)
 
-pub held_other_sealed : (k : InHand) (x : SealedTicket) (n : ℕ) → k ≡ hand.Sealed x → (x.number ≡ n → ⊥) → is_held (hand_ticket k) (sealed n) ≡ false
+pub held_other_sealed : (k : Option Ticket) (x : SealedTicket) (n : ℕ) → k ≡ Some (t.Sealed x) → (x.number ≡ n → ⊥) → is_held (hand_ticket k) (sealed n) ≡ false
 held_other_sealed k x n e ne = ap (λ h. is_held (hand_ticket h) (sealed n)) e ∙ ap (λ t. t && true) (ne_eqb x.number n ne)
 
-pub held_this_bidding : (k : InHand) (x : BiddingTicket) (n : ℕ) → k ≡ hand.Bidding x → x.number ≡ n → is_held (hand_ticket k) (bidding n) ≡ true
+pub held_this_bidding : (k : Option Ticket) (x : BiddingTicket) (n : ℕ) → k ≡ Some (t.Bidding x) → x.number ≡ n → is_held (hand_ticket k) (bidding n) ≡ true
 held_this_bidding k x n e same = ap (λ h. is_held (hand_ticket h) (bidding n)) e ∙ ap (λ t. t && true) (eq-eqb x.number n same)
 
 -- a ticket in hand is known by its name
-pub held_name : (k : InHand) (s t : TicketName) → hand_ticket k ≡ Some s → is_held (hand_ticket k) t ≡ true → s ≡ t
+pub held_name : (k : Option Ticket) (s t : TicketName) → hand_ticket k ≡ Some s → is_held (hand_ticket k) t ≡ true → s ≡ t
 held_name k s t e h = same_name s t (ap (λ o. is_held o t) (sym e) ∙ h)
 
-pub held_nothing : (k : InHand) (t : TicketName) → k ≡ hand.Nothing → is_held (hand_ticket k) t ≡ true → ⊥
+pub held_nothing : (k : Option Ticket) (t : TicketName) → k ≡ None → is_held (hand_ticket k) t ≡ true → ⊥
 held_nothing k t e h = both_ways (is_held (hand_ticket k) t) (held_none k t e) h
 
 -- ---- refused or accepted
 abbrev is_refused : Answer → Bool
-is_refused (a.Refused why) = true
-is_refused a.Done = false
-is_refused (a.Ticket n) = false
-is_refused (a.Published n k) = false
-is_refused (a.Fixed k) = false
-is_refused (a.Terminated l) = false
+is_refused (Err why) = true
+is_refused (Ok x) = false
 
 module _ (P : Plan) (T : Sharing) (C : Deciding) (b : Books) where
   unrefused : (x : Call) → is_refused (answers P T C b x).answer ≡ false
@@ -167,16 +163,16 @@ same-room P T C b d r x y e =
     later = first ((AuctionStands, stands b.auction) ∷ (DayOutOfOrder, le_z d (pos b.day) || not (eqb (length (skipped d b.hedges)) 0)) ∷ (NoFreePosting, ltb b.free (length (open_ones b.hedges) + admitted_ones b)) ∷ [])
 
 -- a fix without room is not accepted
-cramped : (P : Plan) (T : Sharing) (C : Deciding) (b b' : Books) (d r : ℤ) (n : ℕ) (ls : List Line) → step P T C b (c.Fix d r 0) ≡ (record { answer = a.Fixed n; lines = ls }, b') → ⊥
+cramped : (P : Plan) (T : Sharing) (C : Deciding) (b b' : Books) (d r : ℤ) (n : ℕ) (ls : List Line) → step P T C b (c.Fix d r 0) ≡ (record { answer = Ok (a.Fixed n); lines = ls }, b') → ⊥
 cramped P T C b b' d r n ls e =
-    let p = passed (tests P T C b (c.Fix d r 0)) (accepted_after P T C b (c.Fix d r 0) (record { answer = a.Fixed n; lines = ls }) b' refl e).0 in
+    let p = passed (tests P T C b (c.Fix d r 0)) (accepted_after P T C b (c.Fix d r 0) (record { answer = Ok (a.Fixed n); lines = ls }) b' refl e).0 in
     both_ways true p.1.1.0 refl
 
 -- a ticket that is not the standing auction's
 wrong_first : (h : Bool) (rest : List (Refusal × Bool)) → h ≡ false → Some WrongTicket ≡ first ((WrongTicket, not h) ∷ rest)
 wrong_first h rest e = sym (ap (λ u. cond (not u) (Some WrongTicket) (first rest)) e)
 
-ticket_number : (m n : ℕ) → a.Ticket m ≡ a.Ticket n → m ≡ n
+ticket_number : (m n : ℕ) → ◌≡◌ {A = Answer} (Ok (a.Ticket m)) (Ok (a.Ticket n)) → m ≡ n
 ticket_number m n e = cc
 
 module _ {A T C : Type 0} (balances : A → List ℤ) (free : A → ℕ) (shares : T → Sharing) (decides : C → Deciding) where
@@ -206,18 +202,18 @@ module _ {A T C : Type 0} (balances : A → List ℤ) (free : A → ℕ) (shares
   fix_turns d day rate x y t d' m same e = still_turns d (c.Fix day rate y) t d'
       (record { steps = same-room d.house.book.plan (shares d.house.tie_rule) (decides d.house.convention) (B d) day rate y x same ∙ m.steps; plan = m.plan; rule = m.rule; convention = m.convention }) e refl
 
-  pub cramped_never : (h : House A T C) (day rate : ℤ) (n : ℕ) (ls : List Line) (h' : House A T C) → Makes balances free shares decides h (c.Fix day rate 0) (record { answer = a.Fixed n; lines = ls }) h' → ⊥
+  pub cramped_never : (h : House A T C) (day rate : ℤ) (n : ℕ) (ls : List Line) (h' : House A T C) → Makes balances free shares decides h (c.Fix day rate 0) (record { answer = Ok (a.Fixed n); lines = ls }) h' → ⊥
   cramped_never h day rate n ls h' m = cramped h.book.plan (shares h.tie_rule) (decides h.convention) (house_books balances free h) (house_books balances free h') day rate n ls m.steps
 
   -- a refused call that gave its ticket back
-  pub refused_turns : (d : Room A T C) (x : Call) (why : Refusal) (d' : Room A T C) → Makes balances free shares decides d.house x (quietly (a.Refused why)) d'.house → hand_ticket d'.hand ≡ hand_ticket d.hand
-      → Turns balances free shares decides d x (quietly (a.Refused why)) d'
-  refused_turns d x why d' m e = turns balances free shares decides d x (quietly (a.Refused why)) d' (λ _. m)
-      (λ l. e ∙ l ∙ sym (ap (λ (b : Books). ticket_of b.auction) (refused_same d.house.book.plan (shares d.house.tie_rule) (decides d.house.convention) (B d) x (quietly (a.Refused why)) (B d') refl m.steps)))
+  pub refused_turns : (d : Room A T C) (x : Call) (why : Refusal) (d' : Room A T C) → Makes balances free shares decides d.house x (quietly (Err why)) d'.house → hand_ticket d'.hand ≡ hand_ticket d.hand
+      → Turns balances free shares decides d x (quietly (Err why)) d'
+  refused_turns d x why d' m e = turns balances free shares decides d x (quietly (Err why)) d' (λ _. m)
+      (λ l. e ∙ l ∙ sym (ap (λ (b : Books). ticket_of b.auction) (refused_same d.house.book.plan (shares d.house.tie_rule) (decides d.house.convention) (B d) x (quietly (Err why)) (B d') refl m.steps)))
 
   -- announce: an accepted one finds an empty hand
-  pub announced_turns : (d : Room A T C) (k o p m : ℤ) (n : ℕ) (h : House A T C) (d' : Room A T C) → Makes balances free shares decides d.house (c.Announce k o p m) (quietly (a.Ticket n)) h
-      → (d.hand ≡ hand.Nothing → d'.house ≡ h) → hand_ticket d'.hand ≡ Some (bidding n) → Turns balances free shares decides d (c.Announce k o p m) (quietly (a.Ticket n)) d'
+  pub announced_turns : (d : Room A T C) (k o p m : ℤ) (n : ℕ) (h : House A T C) (d' : Room A T C) → Makes balances free shares decides d.house (c.Announce k o p m) (quietly (Ok (a.Ticket n))) h
+      → (d.hand ≡ None → d'.house ≡ h) → hand_ticket d'.hand ≡ Some (bidding n) → Turns balances free shares decides d (c.Announce k o p m) (quietly (Ok (a.Ticket n))) d'
   announced_turns d k o p m n h d' q same new = turns balances free shares decides d x t d' makes
       (λ l. new ∙ ap (λ (j : ℕ). Some (bidding j)) (sym number) ∙ ap (λ (b : Books). ticket_of b.auction) done.2 ∙ sym (ap (λ (y : House A T C). ticket_of (house_books balances free y).auction) (there l)))
     where
@@ -225,7 +221,7 @@ module _ {A T C : Type 0} (balances : A → List ℤ) (free : A → ℕ) (shares
       x = c.Announce k o p m
 
       t : Told
-      t = quietly (a.Ticket n)
+      t = quietly (Ok (a.Ticket n))
 
       done : (first (tests d.house.book.plan (shares d.house.tie_rule) (decides d.house.convention) (B d) x) ≡ None) × (answers d.house.book.plan (shares d.house.tie_rule) (decides d.house.convention) (B d) x ≡ t) × (after d.house.book.plan (shares d.house.tie_rule) (decides d.house.convention) (B d) x ≡ house_books balances free h)
       done = accepted_after d.house.book.plan (shares d.house.tie_rule) (decides d.house.convention) (B d) x t (house_books balances free h) refl q.steps
@@ -246,19 +242,19 @@ module _ {A T C : Type 0} (balances : A → List ℤ) (free : A → ℕ) (shares
       (λ l. ap hand_ticket e ∙ l ∙ sym (bid_ticket d.house.book.plan (shares d.house.tie_rule) (decides d.house.convention) (B d) n i p m t (B d') (holds-is (B d).auction (bidding n) ∙ ap (λ o. is_held o (bidding n)) (sym l) ∙ held) q.steps))
 
   -- the sealed ticket has the number of the bidding one
-  pub sealed-turns : (d : Room A T C) (n k : ℕ) (d' : Room A T C) → Makes balances free shares decides d.house (c.Seal n) (quietly (a.Ticket k)) d'.house → hand_ticket d'.hand ≡ Some (sealed k)
-      → Turns balances free shares decides d (c.Seal n) (quietly (a.Ticket k)) d'
-  sealed-turns d n k d' q new = turns balances free shares decides d (c.Seal n) (quietly (a.Ticket k)) d' (λ _. q)
+  pub sealed-turns : (d : Room A T C) (n k : ℕ) (d' : Room A T C) → Makes balances free shares decides d.house (c.Seal n) (quietly (Ok (a.Ticket k))) d'.house → hand_ticket d'.hand ≡ Some (sealed k)
+      → Turns balances free shares decides d (c.Seal n) (quietly (Ok (a.Ticket k))) d'
+  sealed-turns d n k d' q new = turns balances free shares decides d (c.Seal n) (quietly (Ok (a.Ticket k))) d' (λ _. q)
       (λ _. new ∙ ap (λ (j : ℕ). Some (sealed j)) (sym (ticket_number n k (ap (λ (y : Told). y.answer) done.1))) ∙ ap (λ (b : Books). ticket_of b.auction) done.2)
     where
-      done : (first (tests d.house.book.plan (shares d.house.tie_rule) (decides d.house.convention) (B d) (c.Seal n)) ≡ None) × (answers d.house.book.plan (shares d.house.tie_rule) (decides d.house.convention) (B d) (c.Seal n) ≡ quietly (a.Ticket k)) × (after d.house.book.plan (shares d.house.tie_rule) (decides d.house.convention) (B d) (c.Seal n) ≡ B d')
-      done = accepted_after d.house.book.plan (shares d.house.tie_rule) (decides d.house.convention) (B d) (c.Seal n) (quietly (a.Ticket k)) (B d') refl q.steps
+      done : (first (tests d.house.book.plan (shares d.house.tie_rule) (decides d.house.convention) (B d) (c.Seal n)) ≡ None) × (answers d.house.book.plan (shares d.house.tie_rule) (decides d.house.convention) (B d) (c.Seal n) ≡ quietly (Ok (a.Ticket k))) × (after d.house.book.plan (shares d.house.tie_rule) (decides d.house.convention) (B d) (c.Seal n) ≡ B d')
+      done = accepted_after d.house.book.plan (shares d.house.tie_rule) (decides d.house.convention) (B d) (c.Seal n) (quietly (Ok (a.Ticket k))) (B d') refl q.steps
 
   -- a published auction stands no more, and its ticket is spent
-  pub published-turns : (d : Room A T C) (n first_one count : ℕ) (d' : Room A T C) → Makes balances free shares decides d.house (c.Publish n) (quietly (a.Published first_one count)) d'.house → hand_ticket d'.hand ≡ None
-      → Turns balances free shares decides d (c.Publish n) (quietly (a.Published first_one count)) d'
-  published-turns d n first_one count d' q new = turns balances free shares decides d (c.Publish n) (quietly (a.Published first_one count)) d' (λ _. q)
-      (λ _. new ∙ ap (λ (b : Books). ticket_of b.auction) (accepted_after d.house.book.plan (shares d.house.tie_rule) (decides d.house.convention) (B d) (c.Publish n) (quietly (a.Published first_one count)) (B d') refl q.steps).2)
+  pub published-turns : (d : Room A T C) (n first_one count : ℕ) (d' : Room A T C) → Makes balances free shares decides d.house (c.Publish n) (quietly (Ok (a.Published first_one count))) d'.house → hand_ticket d'.hand ≡ None
+      → Turns balances free shares decides d (c.Publish n) (quietly (Ok (a.Published first_one count))) d'
+  published-turns d n first_one count d' q new = turns balances free shares decides d (c.Publish n) (quietly (Ok (a.Published first_one count))) d' (λ _. q)
+      (λ _. new ∙ ap (λ (b : Books). ticket_of b.auction) (accepted_after d.house.book.plan (shares d.house.tie_rule) (decides d.house.convention) (B d) (c.Publish n) (quietly (Ok (a.Published first_one count))) (B d') refl q.steps).2)
 
   -- the ticket in hand is voided
   pub void_turns : (d : Room A T C) (s : TicketName) (t : Told) (d' : Room A T C) → Makes balances free shares decides d.house (c.Void s) t d'.house → is_held (hand_ticket d.hand) s ≡ true → hand_ticket d'.hand ≡ None
@@ -268,9 +264,9 @@ module _ {A T C : Type 0} (balances : A → List ℤ) (free : A → ℕ) (shares
 
   -- a ticket that is not in hand
   pub wrong_turns : (d : Room A T C) (x : Call) (s : TicketName) (rest : List (Refusal × Bool)) (d' : Room A T C) → d'.house ≡ d.house → hand_ticket d'.hand ≡ hand_ticket d.hand → is_held (hand_ticket d.hand) s ≡ false
-      → tests d.house.book.plan (shares d.house.tie_rule) (decides d.house.convention) (B d) x ≡ (WrongTicket, not (holds (B d).auction s)) ∷ rest → Turns balances free shares decides d x (quietly (a.Refused WrongTicket)) d'
-  wrong_turns d x s rest d' same e held is = turns balances free shares decides d x (quietly (a.Refused WrongTicket)) d'
-      (λ l. subst (λ (y : House A T C). Makes balances free shares decides d.house x (quietly (a.Refused WrongTicket)) y) (sym same)
+      → tests d.house.book.plan (shares d.house.tie_rule) (decides d.house.convention) (B d) x ≡ (WrongTicket, not (holds (B d).auction s)) ∷ rest → Turns balances free shares decides d x (quietly (Err WrongTicket)) d'
+  wrong_turns d x s rest d' same e held is = turns balances free shares decides d x (quietly (Err WrongTicket)) d'
+      (λ l. subst (λ (y : House A T C). Makes balances free shares decides d.house x (quietly (Err WrongTicket)) y) (sym same)
       (record {
         steps = refusing d.house.book.plan (shares d.house.tie_rule) (decides d.house.convention) (B d) x WrongTicket (wrong_first (holds (B d).auction s) rest (holds-is (B d).auction s ∙ ap (λ o. is_held o s) (sym l) ∙ held) ∙ ap first (sym is));
         plan = refl;

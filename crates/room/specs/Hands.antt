@@ -1,15 +1,14 @@
 -- The ticket in hand. Assumes nothing.
 use Rattle.std.specs.Prelude.{Bool, false, Some, None, Option}
 use Rattle.rules.specs.declared.auction.TicketName.{TicketName}
-use Rattle.rules.specs.Books.{Auction, Books, bidding, sealed, same_ticket}
-use Rattle.room.specs.declared.in_hand.InHand.{InHand}
-use Rattle.room.specs.declared.in_hand.InHand.TheVariants as hand
+use Rattle.rules.specs.Books.{Auction, Books, bidding, same_ticket}
+use Rattle.house.specs.declared.tickets.Ticket.{Ticket}
+use Rattle.house.specs.Tickets.{ticket_name}
 
 -- the name of the ticket in hand
-abbrev pub hand_ticket : InHand → Option TicketName
-hand_ticket hand.Nothing = None
-hand_ticket (hand.Bidding k) = Some (bidding k.number)
-hand_ticket (hand.Sealed k) = Some (sealed k.number)
+abbrev pub hand_ticket : Option Ticket → Option TicketName
+hand_ticket None = None
+hand_ticket (Some k) = Some (ticket_name k)
 
 -- the ticket in hand is this one
 abbrev pub is_held : Option TicketName → TicketName → Bool

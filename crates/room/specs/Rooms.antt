@@ -1,34 +1,50 @@
 -- One call in a room, and the law after it. Assumes nothing.
-use Rattle.std.specs.Prelude.{◌≡◌, ℕ, List, ◌∷◌, take, ℤ}
+use Rattle.std.specs.Prelude.{Err, Ok, Some, None, Option, ◌≡◌, ℕ, List, ◌∷◌, take, ℤ}
 use Rattle.std.specs.List.{AllByRecursion}
 use Rattle.terms.specs.declared.plan.Plan.{Plan}
 use Rattle.tie_rules.specs.Sharing.{Sharing}
 use Rattle.conventions.specs.Deciding.{Deciding}
 use Rattle.rules.specs.declared.call.Call.{Call}
 use Rattle.rules.specs.declared.call.Call.TheVariants as c
-use Rattle.rules.specs.declared.call.Answer.{Answer}
-use Rattle.rules.specs.declared.call.Answer.TheVariants as a
+use Rattle.rules.specs.Numbers.{Answer}
+use Rattle.rules.specs.declared.call.Accepted.{Accepted}
+use Rattle.rules.specs.declared.call.Accepted.TheVariants as a
 use Rattle.rules.specs.declared.hedge.Line.{Line}
-use Rattle.rules.specs.Books.{Books, bidding, sealed}
+use Rattle.rules.specs.Books.{Books}
 use Rattle.rules.specs.Rules.{Told}
 use Rattle.rules.specs.Law.{History, Run, run, BooksShow, Orderly, Postable, Penal}
 use Rattle.house.specs.Calls.{house_books, Quiet, Makes}
 use Rattle.house.specs.declared.house.House.{House}
 use Rattle.room.specs.Hands.{hand_ticket, ticket_of}
-use Rattle.room.specs.declared.in_hand.InHand.{InHand}
-use Rattle.room.specs.declared.in_hand.InHand.TheVariants.{Nothing, Bidding, Sealed}
+use Rattle.house.specs.declared.tickets.Ticket.{Ticket}
+use Rattle.house.specs.Tickets.{ticket_name}
 use Rattle.room.specs.declared.room.Room.{Room}
 
 -- a ticket is taken into an empty hand
-pub record Held {A T C : Type 0} (d : Room A T C) (k : InHand) (d' : Room A T C) : Type 0 where
-  pub hand : d'.hand ≡ k
-  pub house : d.hand ≡ Nothing → d'.house ≡ d.house
+pub record Held {A T C : Type 0} (d : Room A T C) (k : Ticket) (d' : Room A T C) : Type 0 where
+  pub hand : d'.hand ≡ Some k
+  pub house : d.hand ≡ None → d'.house ≡ d.house
 
 -- a ticket is voided, whatever the house answers
-abbrev pub Voided : {A T C : Type 0} → InHand → House A T C → House A T C → Type 0
-Voided Nothing h h' = h' ≡ h
-Voided (Bidding k) h h' = (x : Answer) × Quiet h (c.Void (bidding k.number)) x h'
-Voided (Sealed k) h h' = (x : Answer) × Quiet h (c.Void (sealed k.number)) x h'
+abbrev pub Voided : {A T C : Type 0} → Option Ticket → House A T C → House A T C → Type 0
+Voided None h h' = h' ≡ h
+Voided (Some k) h h' = (x : Answer) × Quiet h (c.Void (ticket_name k)) x h'
+
+-- how many lines an accepted fix says that it wrote
+abbrev pub lines_written : Accepted → ℕ
+lines_written a.Done = 0
+lines_written (a.Ticket n) = 0
+lines_written (a.Published n k) = 0
+lines_written (a.Fixed k) = k
+lines_written (a.Terminated l) = 0
+
+-- one line for an accepted termination
+abbrev pub line_ended : Accepted → ℕ
+line_ended a.Done = 0
+line_ended (a.Ticket n) = 0
+line_ended (a.Published n k) = 0
+line_ended (a.Fixed k) = 0
+line_ended (a.Terminated l) = 1
 
 -- how many lines a call told: as many as a fix answers that it wrote, one for a termination, none otherwise
 abbrev pub lines_told : Call → Answer → ℕ
@@ -38,10 +54,10 @@ lines_told (c.Bid n i p m) x = 0
 lines_told (c.Seal n) x = 0
 lines_told (c.Publish n) x = 0
 lines_told (c.Void t) x = 0
-lines_told (c.Fix d r room) x = elim x [ a.Refused why ↦ 0 | a.Done ↦ 0 | a.Ticket n ↦ 0 | a.Published n k ↦ 0 | a.Fixed k ↦ k | a.Terminated l ↦ 0 ]
+lines_told (c.Fix d r room) x = elim x [ Ok y ↦ lines_written y | Err why ↦ 0 ]
 lines_told (c.Lodge i z) x = 0
 lines_told (c.Release i z) x = 0
-lines_told (c.Terminate n) x = elim x [ a.Refused why ↦ 0 | a.Done ↦ 0 | a.Ticket n ↦ 0 | a.Published n k ↦ 0 | a.Fixed k ↦ 0 | a.Terminated l ↦ 1 ]
+lines_told (c.Terminate n) x = elim x [ Ok y ↦ line_ended y | Err why ↦ 0 ]
 
 -- an answer, with the lines that stand at the front of a list
 abbrev pub told_by : Call → Answer → List Line → Told

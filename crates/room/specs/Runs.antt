@@ -6,7 +6,7 @@ use Rattle.tie_rules.specs.Sharing.{Sharing}
 use Rattle.conventions.specs.Deciding.{Deciding}
 use Rattle.rules.specs.declared.call.Call.{Call}
 use Rattle.rules.specs.declared.call.Call.TheVariants as c
-use Rattle.rules.specs.declared.call.Answer.{Answer}
+use Rattle.rules.specs.Numbers.{Answer}
 use Rattle.rules.specs.declared.hedge.Line.{Line}
 use Rattle.rules.specs.Books.{Books, with_auction}
 use Rattle.rules.specs.Law.{run}

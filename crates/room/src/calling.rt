@@ -1,29 +1,24 @@
 ghost use Rattle.std.specs.Prelude.{◌≡◌};
 ghost use Rattle.rules.specs.declared.call.Call.TheVariants.{Admit, Announce, Bid, Seal, Publish, Void, Lodge, Release};
 ghost use Rattle.rules.specs.Rules.{quietly};
-ghost use Rattle.tables.specs.View.{done_or};
+ghost use Rattle.book.specs.View.{done_or};
 ghost use Rattle.room.specs.Rooms.{Turns};
 
 use crate::holding::is_held;
-use crate::in_hand::InHand;
 use crate::room::Room;
 use accounts::Accounts;
+use book::publication::Publication;
 use conventions::Convention;
 use house::tickets::{Returned, Ticket};
 use rules::auction::TicketName;
-use rules::call::Answer;
-use std::mem;
-use tables::publication::Publication;
+use rules::call::{Accepted, Answer};
 use terms::refusal::Refusal;
 use tie_rules::rule::TieRule;
 
 fn done_or(res: Result<(), Refusal>) -> Answer
     ensures { result ≡ done_or res }
 {
-    match res {
-        Ok(()) => Answer::Done,
-        Err(why) => Answer::Refused(why),
-    }
+    res.map(|()| Accepted::Done)
 }
 
 impl<A: Accounts, T: TieRule, C: Convention> Room<A, T, C> {
@@ -48,25 +43,23 @@ impl<A: Accounts, T: TieRule, C: Convention> Room<A, T, C> {
     pub(crate) fn announce(&mut self, kind: i64, offer: i64, cap: i64, maturity: i64) -> Answer
         ensures { Turns A.Accounts.balances A.Accounts.free T.TieRule.meaning C.Convention.meaning self.old (Announce kind offer cap maturity) (quietly result) self.new }
     {
-        match self.house.announce(kind, offer, cap, maturity) {
-            Ok(ticket) => {
-                let number = ticket.number();
-                self.hold(InHand::Bidding(ticket));
-                Answer::Ticket(number)
-            }
-            Err(why) => Answer::Refused(why),
-        }
+        let ticket = self.house.announce(kind, offer, cap, maturity)?;
+        let number = ticket.number();
+        self.hold(Ticket::Bidding(ticket));
+        Ok(Accepted::Ticket(number))
     }
 
     pub(crate) fn bid(&mut self, number: u32, institution: i64, price: i64, millions: i64) -> Answer
         ensures { Turns A.Accounts.balances A.Accounts.free T.TieRule.meaning C.Convention.meaning self.old (Bid number institution price millions) (quietly result) self.new }
     {
-        match &self.hand {
-            InHand::Nothing => Answer::Refused(Refusal::WrongTicket),
-            InHand::Sealed(_) => Answer::Refused(Refusal::WrongTicket),
-            InHand::Bidding(ticket) => {
+        let Some(held) = &self.hand else {
+            return Err(Refusal::WrongTicket);
+        };
+        match held {
+            Ticket::Sealed(_) => Err(Refusal::WrongTicket),
+            Ticket::Bidding(ticket) => {
                 if ticket.number() != number {
-                    return Answer::Refused(Refusal::WrongTicket);
+                    return Err(Refusal::WrongTicket);
                 }
                 done_or(self.house.bid(ticket, institution, price, millions))
             }
@@ -76,26 +69,26 @@ impl<A: Accounts, T: TieRule, C: Convention> Room<A, T, C> {
     pub(crate) fn seal(&mut self, number: u32) -> Answer
         ensures { Turns A.Accounts.balances A.Accounts.free T.TieRule.meaning C.Convention.meaning self.old (Seal number) (quietly result) self.new }
     {
-        match mem::replace(&mut self.hand, InHand::Nothing) {
-            InHand::Nothing => Answer::Refused(Refusal::WrongTicket),
-            InHand::Sealed(ticket) => {
-                self.hold(InHand::Sealed(ticket));
-                Answer::Refused(Refusal::WrongTicket)
+        match self.hand.take() {
+            None => Err(Refusal::WrongTicket),
+            Some(Ticket::Sealed(ticket)) => {
+                self.hold(Ticket::Sealed(ticket));
+                Err(Refusal::WrongTicket)
             }
-            InHand::Bidding(ticket) => {
+            Some(Ticket::Bidding(ticket)) => {
                 if ticket.number() != number {
-                    self.hold(InHand::Bidding(ticket));
-                    return Answer::Refused(Refusal::WrongTicket);
+                    self.hold(Ticket::Bidding(ticket));
+                    return Err(Refusal::WrongTicket);
                 }
                 match self.house.seal(ticket) {
                     Ok(sealed) => {
                         let given = sealed.number();
-                        self.hold(InHand::Sealed(sealed));
-                        Answer::Ticket(given)
+                        self.hold(Ticket::Sealed(sealed));
+                        Ok(Accepted::Ticket(given))
                     }
                     Err(Returned { why, ticket }) => {
-                        self.hold(InHand::Bidding(ticket));
-                        Answer::Refused(why)
+                        self.hold(Ticket::Bidding(ticket));
+                        Err(why)
                     }
                 }
             }
@@ -105,22 +98,22 @@ impl<A: Accounts, T: TieRule, C: Convention> Room<A, T, C> {
     pub(crate) fn publish(&mut self, number: u32) -> Answer
         ensures { Turns A.Accounts.balances A.Accounts.free T.TieRule.meaning C.Convention.meaning self.old (Publish number) (quietly result) self.new }
     {
-        match mem::replace(&mut self.hand, InHand::Nothing) {
-            InHand::Nothing => Answer::Refused(Refusal::WrongTicket),
-            InHand::Bidding(ticket) => {
-                self.hold(InHand::Bidding(ticket));
-                Answer::Refused(Refusal::WrongTicket)
+        match self.hand.take() {
+            None => Err(Refusal::WrongTicket),
+            Some(Ticket::Bidding(ticket)) => {
+                self.hold(Ticket::Bidding(ticket));
+                Err(Refusal::WrongTicket)
             }
-            InHand::Sealed(ticket) => {
+            Some(Ticket::Sealed(ticket)) => {
                 if ticket.number() != number {
-                    self.hold(InHand::Sealed(ticket));
-                    return Answer::Refused(Refusal::WrongTicket);
+                    self.hold(Ticket::Sealed(ticket));
+                    return Err(Refusal::WrongTicket);
                 }
                 match self.house.publish(ticket) {
-                    Ok(Publication { first, count }) => Answer::Published { first, count },
+                    Ok(Publication { first, count }) => Ok(Accepted::Published { first, count }),
                     Err(Returned { why, ticket }) => {
-                        self.hold(InHand::Sealed(ticket));
-                        Answer::Refused(why)
+                        self.hold(Ticket::Sealed(ticket));
+                        Err(why)
                     }
                 }
             }
@@ -131,12 +124,11 @@ impl<A: Accounts, T: TieRule, C: Convention> Room<A, T, C> {
         ensures { Turns A.Accounts.balances A.Accounts.free T.TieRule.meaning C.Convention.meaning self.old (Void ticket) (quietly result) self.new }
     {
         if !is_held(&self.hand, ticket) {
-            return Answer::Refused(Refusal::WrongTicket);
+            return Err(Refusal::WrongTicket);
         }
-        match mem::replace(&mut self.hand, InHand::Nothing) {
-            InHand::Nothing => Answer::Refused(Refusal::WrongTicket),
-            InHand::Bidding(held) => done_or(self.house.void(Ticket::Bidding(held))),
-            InHand::Sealed(held) => done_or(self.house.void(Ticket::Sealed(held))),
+        match self.hand.take() {
+            None => Err(Refusal::WrongTicket),
+            Some(held) => done_or(self.house.void(held)),
         }
     }
 }

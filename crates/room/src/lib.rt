@@ -4,7 +4,6 @@
 pub mod asking;
 pub mod calling;
 pub mod holding;
-pub mod in_hand;
 pub mod log;
 pub mod opening;
 pub mod request;

@@ -1,7 +1,6 @@
 ghost use Rattle.room.specs.Opening.{Opens, Closes};
 
 use crate::holding::spend;
-use crate::in_hand::InHand;
 use crate::room::Room;
 use accounts::Accounts;
 use conventions::Convention;
@@ -14,26 +13,14 @@ impl<A: Accounts, T: TieRule, C: Convention> Room<A, T, C> {
     pub fn new(plan: Plan, accounts: A, tie_rule: T, convention: C) -> Self
         ensures { Opens A.Accounts.balances A.Accounts.free T.TieRule.meaning C.Convention.meaning plan accounts tie_rule convention result }
     {
-        Self::furnished(plan, accounts, tie_rule, convention)
-    }
-
-    fn furnished(plan: Plan, accounts: A, tie_rule: T, convention: C) -> Self
-        ensures { Opens A.Accounts.balances A.Accounts.free T.TieRule.meaning C.Convention.meaning plan accounts tie_rule convention result }
-    {
         Room {
             house: House::new(plan, accounts, tie_rule, convention),
-            hand: InHand::Nothing,
+            hand: None,
         }
     }
 
     // Voids a ticket that is still in hand, and gives the house back.
     pub fn close(self) -> House<A, T, C>
-        ensures { Closes A.Accounts.balances A.Accounts.free T.TieRule.meaning C.Convention.meaning self result }
-    {
-        self.cleared()
-    }
-
-    fn cleared(self) -> House<A, T, C>
         ensures { Closes A.Accounts.balances A.Accounts.free T.TieRule.meaning C.Convention.meaning self result }
     {
         let Room { mut house, hand } = self;

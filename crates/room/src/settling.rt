@@ -5,7 +5,7 @@ ghost use Rattle.room.specs.Rooms.{Turns, told_by, lines_told};
 use crate::room::Room;
 use accounts::Accounts;
 use conventions::Convention;
-use rules::call::Answer;
+use rules::call::{Accepted, Answer};
 use rules::hedge::Line;
 use tie_rules::rule::TieRule;
 
@@ -17,12 +17,8 @@ impl<A: Accounts, T: TieRule, C: Convention> Room<A, T, C> {
         ensures turns { Turns A.Accounts.balances A.Accounts.free T.TieRule.meaning C.Convention.meaning self.old (Terminate hedge) (told_by (Terminate hedge) result lines.new) self.new }
         ensures later { lines.new ≡ take (lines_told (Terminate hedge) result) lines.new ++ drop (lines_told (Terminate hedge) result) lines.old }
     {
-        match self.house.terminate(hedge) {
-            Ok(line) => {
-                lines[0] = line;
-                Answer::Terminated(line)
-            }
-            Err(why) => Answer::Refused(why),
-        }
+        let line = self.house.terminate(hedge)?;
+        lines[0] = line;
+        Ok(Accepted::Terminated(line))
     }
 }

@@ -1,6 +1,6 @@
 // Bids, and what each gets of the dollars offered.
 use std::alloc::{AllocError, AllocFailed, Global};
-use std::io;
+use std::{fmt, io};
 use terms::refusal::Refusal;
 use tie_rules::pro_rata::ProRata;
 use tie_rules::rule::TieRule;
@@ -27,6 +27,19 @@ pub enum Met {
     Whole,
     Shared,
     NothingLeft,
+}
+
+impl fmt::Display for Met {
+    fn fmt<W: fmt::Write>(&self, f: &mut fmt::Formatter<W>) -> fmt::Result {
+        match self {
+            Met::Whole => write!(f, "all are met"),
+            Met::Shared => write!(
+                f,
+                "shared by amount, whole dollars rounded down, the missing ones to the earliest"
+            ),
+            Met::NothingLeft => write!(f, "none is met"),
+        }
+    }
 }
 
 #[derive(Debug, Drop)]
@@ -72,11 +85,9 @@ pub(crate) fn named(heap: Global, price: &Price) -> Result<Vec<u32>, AllocError>
 }
 
 pub(crate) fn total(amounts: &[u32]) -> u64 {
-    let mut sum = 0u64;
-    for amount in amounts {
-        sum = sum.saturating_add(u64::from(*amount));
-    }
-    sum
+    amounts
+        .iter()
+        .fold(0, |sum, amount| sum.saturating_add(u64::from(*amount)))
 }
 
 // What the bids at one rate get of the dollars left, and how.

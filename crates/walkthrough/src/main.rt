@@ -63,15 +63,6 @@ fn announce(rt: &HostRuntime) -> Result<(), Stopped> {
     Ok(())
 }
 
-fn reason(met: Met) -> &'static str {
-    match met {
-        Met::Whole => "all are met",
-        Met::Shared =>
-            "shared by amount, whole dollars rounded down, the missing ones to the earliest",
-        Met::NothingLeft => "none is met",
-    }
-}
-
 // Meets the bids at one rate, and returns the dollars left after them.
 fn meet(
     rt: &HostRuntime,
@@ -86,7 +77,7 @@ fn meet(
         "\nat {}: {wanted} dollars wanted, {} left: {}",
         Rate(price.rate),
         Grouped(u64::from(left)),
-        reason(met)
+        met
     )?;
     let mut rest = left;
     for ((institution, millions), dollars) in price.bids.iter().zip(shares.iter()) {

@@ -1,6 +1,5 @@
-use Rattle.std.proofs.Common.{◌^◌, ◌<◌, pos, arith, w64, SFits}
-use mir.Val.{hbits}
-use Rattle.std.proofs.lemmas.Int.{ints, to_z-of_z, to_z_pos}
+use Rattle.std.proofs.Common.{pos, arith, w64, SFits}
+use Rattle.std.proofs.lemmas.Int.{ints, to_z-of_z}
 use Rattle.house.proofs.Postings.{posts_one}
 use Rattle.house.proofs.posting.post_line.Goals as goal
 
@@ -12,6 +11,5 @@ returns g c =
     let h = c.requires.payable in
     let fz : SFits w64 l.centavos = omega (arith, ints, h.2) in
     let fi : SFits w64 (pos l.institution) = omega (arith, ints, h.1) in
-    let lt : l.institution < 2 ^ hbits w64 = omega (arith, h.1) in
     let e = c.pay.ensures in
-    posts_one l (m.balances s) (m.balances c.pay.new.accounts) (m.free s) (m.free c.pay.new.accounts) h c.requires.some (m.parties s) (simp (to_z_pos, to_z-of_z) at e.moves) (simp (to_z_pos, to_z-of_z) at e.uses)
+    posts_one l (m.balances s) (m.balances c.pay.new.accounts) (m.free s) (m.free c.pay.new.accounts) h c.requires.some (m.parties s) (simp (c.from.ensures, to_z-of_z) at e.moves) (simp (c.from.ensures, to_z-of_z) at e.uses)

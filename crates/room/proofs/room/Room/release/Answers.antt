@@ -1,7 +1,7 @@
 use Rattle.std.proofs.Common.{sym, refl, subst}
 use Rattle.std.proofs.lemmas.Int.{to_z-of_z}
 use Rattle.rules.specs.declared.call.Call.TheVariants.{Release}
-use Rattle.rules.specs.declared.call.Answer.{Answer}
+use Rattle.rules.specs.Numbers.{Answer}
 use Rattle.rules.specs.Rules.{quietly}
 use Rattle.house.specs.Calls.{Quiet}
 use Rattle.room.proofs.Laws.{quiet_makes}
