@@ -5,7 +5,7 @@ ghost use Rattle.accounts.specs.Tables.{most_table};
 use crate::Accounts;
 use crate::posting::Posting;
 use crate::table::Table;
-use terms::range::PARTIES;
+use terms::range::{PARTIES, PARTY_COUNT};
 use terms::refusal::Refusal;
 
 impl Table {
@@ -14,7 +14,7 @@ impl Table {
         ensures free { result.free ≡ 100000 }
     {
         Table {
-            balances: [0; 17],
+            balances: [0; PARTY_COUNT],
             free: <Table as Accounts>::MOST_POSTINGS,
         }
     }

@@ -7,6 +7,7 @@ use portfolio::portfolio::Portfolio;
 use rules::auction::Bid;
 use rules::hedge::Desk;
 use terms::plan::Plan;
+use terms::range::PARTY_COUNT;
 
 // Bids stand by falling price, then receipt; hedges in the portfolio, by number; desks by institution, the first for nobody.
 #[derive(Drop)]
@@ -20,7 +21,7 @@ pub struct Book {
     pub(crate) taken: usize,
     pub(crate) portfolio: Portfolio,
     pub(crate) matured: u64,
-    pub(crate) desks: [Desk; 17],
+    pub(crate) desks: [Desk; PARTY_COUNT],
     ghost sized: { (length bids ≡ 64) × (length desks ≡ 17) },
     ghost few: { (taken ≤ 64) × (auctions ≤ 100000) },
     ghost dated: { (day ≤ 30314) × (rate ≤ 999999) },

@@ -8,6 +8,7 @@ use portfolio::portfolio::Portfolio;
 use rules::auction::Bid;
 use rules::hedge::Desk;
 use terms::plan::Plan;
+use terms::range::PARTY_COUNT;
 
 impl Book {
     // The tables of a house just made of a checked plan.
@@ -25,7 +26,7 @@ impl Book {
             taken: 0,
             portfolio: Portfolio::new(),
             matured: 0,
-            desks: [Desk::default(); 17],
+            desks: [Desk::default(); PARTY_COUNT],
         }
     }
 }

@@ -6,16 +6,11 @@ ghost use Rattle.portfolio.specs.View.{placed_of};
 
 use crate::portfolio::{MOST_HEDGES, MOST_NUMBERS, Portfolio};
 use rules::hedge::{Deal, Hedge};
-use terms::range::{INSTITUTIONS, Range};
+use terms::range::{DOLLARS, INSTITUTIONS};
 use terms::rate::Rate;
 use terms::refusal::Refusal;
 
 // Dollars of one hedge.
-const DOLLARS: Range = Range {
-    least: 1,
-    most: 2_000_000_000,
-};
-
 impl Portfolio {
     // Tests an issue, in the order of its refusals.
     fn test_issue(&self, institution: u32, dollars: u32) -> Result<(), Refusal>

@@ -19,11 +19,18 @@ impl Range {
 // Party 0 is the central bank, 1 to 16 are institutions.
 pub const PARTIES: Range = Range { least: 0, most: 16 };
 
+pub const PARTY_COUNT: usize = 17;
+
 pub const INSTITUTIONS: Range = Range { least: 1, most: 16 };
 // Whole millions of dollars of an offer, a cap or a bid.
 pub const MILLIONS: Range = Range {
     least: 1,
     most: 2_000,
+};
+// Whole dollars of a hedge, of a tied bid, or left to share.
+pub const DOLLARS: Range = Range {
+    least: 1,
+    most: 2_000_000_000,
 };
 // Ten-thousandths of a peso per dollar.
 pub const RATES: Range = Range {

@@ -2,16 +2,15 @@ ghost use Rattle.std.specs.Prelude.{◌≡◌, ◌≤◌, length, Some, None, Ok
 ghost use Rattle.std.specs.List.{list_all};
 ghost use Rattle.tie_rules.specs.Sharing.{Tied, is_dollars, refusal};
 
+use terms::range::DOLLARS;
 use terms::refusal::Refusal;
 
 const MOST_AMOUNTS: usize = 64;
 
-const MOST_DOLLARS: u32 = 2_000_000_000;
-
 fn in_range(dollars: u32) -> bool
     ensures { result ≡ is_dollars dollars }
 {
-    1 <= dollars && dollars <= MOST_DOLLARS
+    DOLLARS.has(i64::from(dollars))
 }
 
 fn all_in_range(amounts: &[u32]) -> bool
