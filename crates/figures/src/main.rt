@@ -57,29 +57,19 @@ fn weekday(day: u32) -> i64 {
 
 // A plan of this start and part, with 1 May 2017 (day 120) a holiday: its starting day.
 fn plan(start: i64, percent: i64) -> i64 {
-    match Plan::check(start, percent, &[120]) {
-        Ok(plan) => i64::from(plan.start()),
-        Err(why) => told::<u32>(Err(why)),
-    }
+    told(Plan::check(start, percent, &[120]).map(|plan| plan.start()))
 }
 
 fn required(value: i64, percent: i64) -> i64 {
-    match Plan::check(64, percent, &[]) {
-        Ok(plan) => i64::try_from(requirement(value, plan.part())).unwrap_or(i64::MAX),
-        Err(why) => told::<u32>(Err(why)),
-    }
+    let part = Plan::check(64, percent, &[]).map(|plan| plan.part());
+    told(part.map(|part| i64::try_from(requirement(value, part)).unwrap_or(i64::MAX)))
 }
 
 // The share of one of the tied amounts of 1, 2 and 4 million dollars, of 5 million left.
 fn share<T: TieRule>(rule: &T, place: usize) -> i64 {
     let mut shares = [0; 3];
-    if let Err(why) = rule.share(&[1_000_000, 2_000_000, 4_000_000], 5_000_000, &mut shares) {
-        return told::<u32>(Err(why));
-    }
-    match shares.get(place) {
-        Some(dollars) => i64::from(*dollars),
-        None => 0,
-    }
+    let answer = rule.share(&[1_000_000, 2_000_000, 4_000_000], 5_000_000, &mut shares);
+    told(answer.map(|()| shares.get(place).copied().unwrap_or(0)))
 }
 
 fn compare(rt: &HostRuntime, figures: &[Figure]) -> io::Result<()> {
