@@ -1,17 +1,14 @@
 -- A room just opened, and a room closed.
-use Rattle.std.proofs.Common.{◌≡◌, ℕ, zero, suc, Bool, true, cond, not, ◌&&◌, List, [], ◌∷◌, get_or, ℤ, pos, Some, None, Option, sym, refl, ap, ◌∙◌, arith}
+use Rattle.std.proofs.Common.{◌≡◌, ℕ, zero, suc, Bool, true, cond, not, List, [], ◌∷◌, get_or, ℤ, pos, Some, None, Option, sym, refl, ap, ◌∙◌, arith}
 use mathlib.Core.Path.{fun_ext}
-use Rattle.std.proofs.lemmas.Bool.{eq-eqb}
 use Rattle.terms.specs.declared.plan.Plan.{Plan}
 use Rattle.terms.specs.declared.refusal.Refusal.TheVariants.{WrongTicket}
 use Rattle.tie_rules.specs.Sharing.{Sharing}
 use Rattle.conventions.specs.Deciding.{Deciding}
-use Rattle.rules.specs.declared.auction.Stage.{Stage}
-use Rattle.rules.specs.declared.auction.Stage.TheVariants.{Bidding, Sealed}
 use Rattle.rules.specs.declared.auction.TicketName.{TicketName}
 use Rattle.rules.specs.declared.call.Call.TheVariants.{Void}
 use Rattle.rules.specs.Numbers.{Answer}
-use Rattle.rules.specs.Books.{Auction, Books, bidding, sealed, same_stage, same_ticket, holds, opened, with_auction}
+use Rattle.rules.specs.Books.{Auction, Books, bidding, sealed, holds, opened, with_auction}
 use Rattle.rules.specs.Rules.{Told, quietly, judged, answers, after, step}
 use Rattle.book.specs.View.{books_of}
 use Rattle.house.specs.Posting.{by_party}
@@ -25,7 +22,7 @@ use Rattle.house.specs.declared.tickets.Ticket.{Ticket}
 use Rattle.house.specs.declared.tickets.Ticket.TheVariants as t
 use Rattle.room.specs.declared.room.Room.{Room}
 use Rattle.room.proofs.Laws.{quiet_makes}
-use Rattle.room.proofs.Turning.{holds-is}
+use Rattle.room.proofs.Turning.{holds-is, same-itself}
 
 nought : (xs : List ℤ) → New xs → (i : ℕ) → get_or xs i (pos 0) ≡ pos 0
 nought [] h i = refl
@@ -38,13 +35,6 @@ new_balances xs h = fun_ext (λ i. nought xs h i)
 no-auction : (o : Option Auction) → None ≡ ticket_of o → o ≡ None
 no-auction None e = refl
 no-auction (Some x) e = let z : ◌≡◌ {A = ℕ} 0 1 = cc in absurd (omega arith)
-
-same-itself : (t : TicketName) → same_ticket t t ≡ true
-same-itself t = ap (λ b. b && same_stage t.stage t.stage) (eq-eqb t.number t.number refl) ∙ stage t.stage
-  where
-    stage : (s : Stage) → same_stage s s ≡ true
-    stage Bidding = refl
-    stage Sealed = refl
 
 holds-held : (o : Option Auction) (t : TicketName) → Some t ≡ ticket_of o → holds o t ≡ true
 holds-held o t e = holds-is o t ∙ ap (λ (u : Option TicketName). is_held u t) (sym e) ∙ same-itself t

@@ -29,8 +29,9 @@ use Rattle.house.specs.declared.house.House.{House}
 use Rattle.house.specs.declared.tickets.BiddingTicket.{BiddingTicket}
 use Rattle.house.specs.declared.tickets.SealedTicket.{SealedTicket}
 use Rattle.room.specs.Hands.{hand_ticket, is_held, ticket_of}
-use Rattle.room.specs.Rooms.{room_books, Live, Turns}
+use Rattle.room.specs.Rooms.{room_books, Live, Taken, Turns}
 use Rattle.house.specs.declared.tickets.Ticket.{Ticket}
+use Rattle.house.specs.Tickets.{ticket_name}
 use Rattle.house.specs.declared.tickets.Ticket.TheVariants as t
 use Rattle.room.specs.declared.room.Room.{Room}
 use Rattle.room.proofs.Laws.{turns}
@@ -77,24 +78,23 @@ held_none k s e = ap (λ h. is_held (hand_ticket h) s) e
 pub held_sealed : (k : Option Ticket) (x : SealedTicket) (n : ℕ) → k ≡ Some (t.Sealed x) → is_held (hand_ticket k) (bidding n) ≡ false
 held_sealed k x n e = ap (λ h. is_held (hand_ticket h) (bidding n)) e ∙ and_none (eqb x.number n)
 
-pub held_bidding : (k : Option Ticket) (x : BiddingTicket) (n : ℕ) → k ≡ Some (t.Bidding x) → is_held (hand_ticket k) (sealed n) ≡ false
-held_bidding k x n e = ap (λ h. is_held (hand_ticket h) (sealed n)) e ∙ and_none (eqb x.number n)
-
 pub held_other_bidding : (k : Option Ticket) (x : BiddingTicket) (n : ℕ) → k ≡ Some (t.Bidding x) → (x.number ≡ n → ⊥) → is_held (hand_ticket k) (bidding n) ≡ false
 held_other_bidding k x n e ne = ap (λ h. is_held (hand_ticket h) (bidding n)) e ∙ ap (λ t. t && true) (ne_eqb x.number n ne)
-
-pub held_other_sealed : (k : Option Ticket) (x : SealedTicket) (n : ℕ) → k ≡ Some (t.Sealed x) → (x.number ≡ n → ⊥) → is_held (hand_ticket k) (sealed n) ≡ false
-held_other_sealed k x n e ne = ap (λ h. is_held (hand_ticket h) (sealed n)) e ∙ ap (λ t. t && true) (ne_eqb x.number n ne)
 
 pub held_this_bidding : (k : Option Ticket) (x : BiddingTicket) (n : ℕ) → k ≡ Some (t.Bidding x) → x.number ≡ n → is_held (hand_ticket k) (bidding n) ≡ true
 held_this_bidding k x n e same = ap (λ h. is_held (hand_ticket h) (bidding n)) e ∙ ap (λ t. t && true) (eq-eqb x.number n same)
 
--- a ticket in hand is known by its name
-pub held_name : (k : Option Ticket) (s t : TicketName) → hand_ticket k ≡ Some s → is_held (hand_ticket k) t ≡ true → s ≡ t
-held_name k s t e h = same_name s t (ap (λ o. is_held o t) (sym e) ∙ h)
+-- a ticket is its own
+pub same-itself : (t : TicketName) → same_ticket t t ≡ true
+same-itself t = ap (λ b. b && same_stage t.stage t.stage) (eq-eqb t.number t.number refl) ∙ stage t.stage
+  where
+    stage : (s : Stage) → same_stage s s ≡ true
+    stage Bidding = refl
+    stage Sealed = refl
 
-pub held_nothing : (k : Option Ticket) (t : TicketName) → k ≡ None → is_held (hand_ticket k) t ≡ true → ⊥
-held_nothing k t e h = both_ways (is_held (hand_ticket k) t) (held_none k t e) h
+-- a ticket in hand is the one of its name
+pub held_own : (h : Option Ticket) (k : Ticket) (s : TicketName) → h ≡ Some k → ticket_name k ≡ s → is_held (hand_ticket h) s ≡ true
+held_own h k s e q = ap (λ o. is_held (hand_ticket o) s) e ∙ ap (λ (u : TicketName). is_held (Some u) s) q ∙ same-itself s
 
 -- ---- refused or accepted
 abbrev is_refused : Answer → Bool
@@ -274,3 +274,9 @@ module _ {A T C : Type 0} (balances : A → List ℤ) (free : A → ℕ) (shares
         convention = refl;
       }))
       (λ l. e ∙ l ∙ sym (ap (λ (y : House A T C). ticket_of (house_books balances free y).auction) same))
+
+  pub wrong_taken : (d : Room A T C) (x : Call) (s : TicketName) (rest : List (Refusal × Bool)) (why : Refusal) (r : Answer) (d' : Room A T C) → r ≡ Err why → Taken d s (Err why) d'
+      → tests d.house.book.plan (shares d.house.tie_rule) (decides d.house.convention) (B d) x ≡ (WrongTicket, not (holds (B d).auction s)) ∷ rest → Turns balances free shares decides d x (quietly r) d'
+  wrong_taken d x s rest why r d' e t is =
+      subst (λ (y : Answer). Turns balances free shares decides d x (quietly y) d') (sym (e ∙ ap (λ (w : Refusal). Err w) t.2))
+      (wrong_turns d x s rest d' (ap (λ (y : Room A T C). y.house) t.1) (ap (λ (y : Room A T C). hand_ticket y.hand) t.1) t.0 is)

@@ -1,5 +1,5 @@
 -- One call in a room, and the law after it. Assumes nothing.
-use Rattle.std.specs.Prelude.{Err, Ok, Some, None, Option, ◌≡◌, ℕ, List, ◌∷◌, take, ℤ}
+use Rattle.std.specs.Prelude.{Err, Ok, Some, None, Option, Result, false, ◌≡◌, ℕ, List, ◌∷◌, take, ℤ}
 use Rattle.std.specs.List.{AllByRecursion}
 use Rattle.terms.specs.declared.plan.Plan.{Plan}
 use Rattle.tie_rules.specs.Sharing.{Sharing}
@@ -10,12 +10,15 @@ use Rattle.rules.specs.Numbers.{Answer}
 use Rattle.rules.specs.declared.call.Accepted.{Accepted}
 use Rattle.rules.specs.declared.call.Accepted.TheVariants as a
 use Rattle.rules.specs.declared.hedge.Line.{Line}
+use Rattle.rules.specs.declared.auction.TicketName.{TicketName}
+use Rattle.terms.specs.declared.refusal.Refusal.{Refusal}
+use Rattle.terms.specs.declared.refusal.Refusal.TheVariants.{WrongTicket}
 use Rattle.rules.specs.Books.{Books}
 use Rattle.rules.specs.Rules.{Told}
 use Rattle.rules.specs.Law.{History, Run, run, BooksShow, Orderly, Postable, Penal}
 use Rattle.house.specs.Calls.{house_books, Quiet, Makes}
 use Rattle.house.specs.declared.house.House.{House}
-use Rattle.room.specs.Hands.{hand_ticket, ticket_of}
+use Rattle.room.specs.Hands.{hand_ticket, is_held, ticket_of}
 use Rattle.house.specs.declared.tickets.Ticket.{Ticket}
 use Rattle.house.specs.Tickets.{ticket_name}
 use Rattle.room.specs.declared.room.Room.{Room}
@@ -24,6 +27,11 @@ use Rattle.room.specs.declared.room.Room.{Room}
 pub record Held {A T C : Type 0} (d : Room A T C) (k : Ticket) (d' : Room A T C) : Type 0 where
   pub hand : d'.hand ≡ Some k
   pub house : d.hand ≡ None → d'.house ≡ d.house
+
+-- the ticket in hand is taken, if it is this one
+abbrev pub Taken : {A T C : Type 0} → Room A T C → TicketName → Result Ticket Refusal → Room A T C → Type 0
+Taken d s (Ok k) d' = (d.hand ≡ Some k) × (ticket_name k ≡ s) × (d'.house ≡ d.house) × (d'.hand ≡ None)
+Taken d s (Err why) d' = (is_held (hand_ticket d.hand) s ≡ false) × (d' ≡ d) × (why ≡ WrongTicket)
 
 -- a ticket is voided, whatever the house answers
 abbrev pub Voided : {A T C : Type 0} → Option Ticket → House A T C → House A T C → Type 0

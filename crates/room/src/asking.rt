@@ -15,13 +15,10 @@ impl<A: Accounts, T: TieRule, C: Convention> Room<A, T, C> {
     fn last_ticket(&self) -> TicketName
         ensures { result ≡ last_ticket (room_books A.Accounts.balances A.Accounts.free T.TieRule.meaning C.Convention.meaning self.now) }
     {
-        match self.house.standing_ticket() {
-            Some(ticket) => ticket,
-            None => TicketName {
-                number: self.house.auctions(),
-                stage: Stage::Bidding,
-            },
-        }
+        self.house.standing_ticket().unwrap_or(TicketName {
+            number: self.house.auctions(),
+            stage: Stage::Bidding,
+        })
     }
 
     // The call that a request means: with the ticket in hand, under the last auction's number.

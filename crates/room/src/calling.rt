@@ -4,13 +4,12 @@ ghost use Rattle.rules.specs.Rules.{quietly};
 ghost use Rattle.book.specs.View.{done_or};
 ghost use Rattle.room.specs.Rooms.{Turns};
 
-use crate::holding::is_held;
 use crate::room::Room;
 use accounts::Accounts;
 use book::publication::Publication;
 use conventions::Convention;
 use house::tickets::{Returned, Ticket};
-use rules::auction::TicketName;
+use rules::auction::{Stage, TicketName};
 use rules::call::{Accepted, Answer};
 use terms::refusal::Refusal;
 use tie_rules::rule::TieRule;
@@ -69,66 +68,49 @@ impl<A: Accounts, T: TieRule, C: Convention> Room<A, T, C> {
     pub(crate) fn seal(&mut self, number: u32) -> Answer
         ensures { Turns A.Accounts.balances A.Accounts.free T.TieRule.meaning C.Convention.meaning self.old (Seal number) (quietly result) self.new }
     {
-        match self.hand.take() {
-            None => Err(Refusal::WrongTicket),
-            Some(Ticket::Sealed(ticket)) => {
-                self.hold(Ticket::Sealed(ticket));
-                Err(Refusal::WrongTicket)
-            }
-            Some(Ticket::Bidding(ticket)) => {
-                if ticket.number() != number {
+        let ticket = self.take_ticket(TicketName {
+            number,
+            stage: Stage::Bidding,
+        })?;
+        match ticket {
+            Ticket::Sealed(_other) => unreachable!(),
+            Ticket::Bidding(ticket) => match self.house.seal(ticket) {
+                Ok(sealed) => {
+                    let given = sealed.number();
+                    self.hold(Ticket::Sealed(sealed));
+                    Ok(Accepted::Ticket(given))
+                }
+                Err(Returned { why, ticket }) => {
                     self.hold(Ticket::Bidding(ticket));
-                    return Err(Refusal::WrongTicket);
+                    Err(why)
                 }
-                match self.house.seal(ticket) {
-                    Ok(sealed) => {
-                        let given = sealed.number();
-                        self.hold(Ticket::Sealed(sealed));
-                        Ok(Accepted::Ticket(given))
-                    }
-                    Err(Returned { why, ticket }) => {
-                        self.hold(Ticket::Bidding(ticket));
-                        Err(why)
-                    }
-                }
-            }
+            },
         }
     }
 
     pub(crate) fn publish(&mut self, number: u32) -> Answer
         ensures { Turns A.Accounts.balances A.Accounts.free T.TieRule.meaning C.Convention.meaning self.old (Publish number) (quietly result) self.new }
     {
-        match self.hand.take() {
-            None => Err(Refusal::WrongTicket),
-            Some(Ticket::Bidding(ticket)) => {
-                self.hold(Ticket::Bidding(ticket));
-                Err(Refusal::WrongTicket)
-            }
-            Some(Ticket::Sealed(ticket)) => {
-                if ticket.number() != number {
+        let ticket = self.take_ticket(TicketName {
+            number,
+            stage: Stage::Sealed,
+        })?;
+        match ticket {
+            Ticket::Bidding(_other) => unreachable!(),
+            Ticket::Sealed(ticket) => match self.house.publish(ticket) {
+                Ok(Publication { first, count }) => Ok(Accepted::Published { first, count }),
+                Err(Returned { why, ticket }) => {
                     self.hold(Ticket::Sealed(ticket));
-                    return Err(Refusal::WrongTicket);
+                    Err(why)
                 }
-                match self.house.publish(ticket) {
-                    Ok(Publication { first, count }) => Ok(Accepted::Published { first, count }),
-                    Err(Returned { why, ticket }) => {
-                        self.hold(Ticket::Sealed(ticket));
-                        Err(why)
-                    }
-                }
-            }
+            },
         }
     }
 
     pub(crate) fn void(&mut self, ticket: TicketName) -> Answer
         ensures { Turns A.Accounts.balances A.Accounts.free T.TieRule.meaning C.Convention.meaning self.old (Void ticket) (quietly result) self.new }
     {
-        if !is_held(&self.hand, ticket) {
-            return Err(Refusal::WrongTicket);
-        }
-        match self.hand.take() {
-            None => Err(Refusal::WrongTicket),
-            Some(held) => done_or(self.house.void(held)),
-        }
+        let held = self.take_ticket(ticket)?;
+        done_or(self.house.void(held))
     }
 }

@@ -1,30 +1,28 @@
-use Rattle.std.proofs.Common.{[], sym, refl, ap, ◌∙◌, subst}
+use Rattle.std.proofs.Common.{[], Err, sym, refl, ap, ◌∙◌, subst}
+use Rattle.std.proofs.lemmas.Result.{err_from_is_err_and}
 use Rattle.rules.specs.declared.call.Call.TheVariants.{Void}
+use Rattle.rules.specs.declared.auction.TicketName.{TicketName}
 use Rattle.rules.specs.Numbers.{Answer}
 use Rattle.rules.specs.Rules.{quietly}
 use Rattle.book.specs.View.{done_or}
 use Rattle.house.specs.Calls.{Quiet}
-use Rattle.house.specs.Tickets.{ticket_name}
-use Rattle.rules.specs.declared.auction.TicketName.{TicketName}
+use Rattle.house.specs.declared.house.House.{House}
 use Rattle.room.specs.Hands.{hand_ticket}
 use Rattle.room.proofs.Laws.{quiet_makes}
-use Rattle.room.proofs.Turning.{void_turns, wrong_turns, held_name, held_nothing}
+use Rattle.room.proofs.Turning.{void_turns, wrong_taken, held_own}
 use Rattle.room.proofs.room.Room.void.Goals as goal
 
-pub returns-then-not-is_held : goal.returns-then-not-is_held
-returns-then-not-is_held g c =
-    let d = c.args.self.now in
-    wrong_turns g.A.Accounts.balances g.A.Accounts.free g.T.TieRule.meaning g.C.Convention.meaning d (Void c.args.ticket) c.args.ticket [] d refl refl (sym c.if-not-is_held.ensures) refl
+pub returns-in_err-held : goal.returns-in_err-held
+returns-in_err-held g c =
+    let p = err_from_is_err_and c.from_residual.result c.from_residual.ensures.1 in
+    wrong_taken g.A.Accounts.balances g.A.Accounts.free g.T.TieRule.meaning g.C.Convention.meaning c.args.self.now (Void c.args.ticket) c.args.ticket [] c.in_err-held.field-0.0 c.from_residual.result _ (p.1 ∙ ap Err p.2) c.in_err-held.ensures refl
 
-pub returns-in-None : goal.returns-in-None
-returns-in-None g c = absurd (held_nothing c.args.self.now.hand c.args.ticket (sym c.take.ensures.value ∙ c.in-None.is) (sym c.if-not-is_held.ensures))
-
-pub returns-in-Some : goal.returns-in-Some
-returns-in-Some g c =
+pub returns : goal.returns
+returns g c =
     let d = c.args.self.now in
-    let t = c.args.ticket in
-    let held = sym c.if-not-is_held.ensures in
-    let name = held_name d.hand (ticket_name c.in-Some.held) t (ap hand_ticket (sym c.take.ensures.value ∙ c.in-Some.is)) held in
+    let s = c.args.ticket in
+    let u = c.in_ok-held.ensures in
     let h' = c.void.new.self in
-    let q = subst (λ (x : Answer). Quiet d.house (Void t) x h') (sym c.done_or.ensures) (subst (λ (s : TicketName). Quiet d.house (Void s) (done_or c.void.result) h') name c.void.ensures) in
-    void_turns g.A.Accounts.balances g.A.Accounts.free g.T.TieRule.meaning g.C.Convention.meaning d t (quietly c.done_or.result) _ (quiet_makes g.A.Accounts.balances g.A.Accounts.free g.T.TieRule.meaning g.C.Convention.meaning d.house (Void t) c.done_or.result h' q) held (ap hand_ticket c.take.ensures.after)
+    let q = subst (λ (x : Answer). Quiet d.house (Void s) x h') (sym c.done_or.ensures)
+    (subst (λ (y : House g.row.A.Denot g.row.T.Denot g.row.C.Denot). Quiet y (Void s) (done_or c.void.result) h') u.2 (subst (λ (k : TicketName). Quiet c.take_ticket.new.self.house (Void k) (done_or c.void.result) h') u.1 c.void.ensures)) in
+    void_turns g.A.Accounts.balances g.A.Accounts.free g.T.TieRule.meaning g.C.Convention.meaning d s (quietly c.done_or.result) _ (quiet_makes g.A.Accounts.balances g.A.Accounts.free g.T.TieRule.meaning g.C.Convention.meaning d.house (Void s) c.done_or.result h' q) (held_own d.hand c.in_ok-held.held s u.0 u.1) (ap hand_ticket u.3)
