@@ -1,6 +1,7 @@
 -- What the two ways between dates and day numbers rest on.
-use Rattle.std.proofs.Common.{◌≡◌, ℕ, zero, suc, ◌+◌, ◌-◌, ◌*◌, ◌/◌, ◌<◌, ◌≤◌, Bool, true, false, cond, ◌&&◌, T, ltb, leb, sym, refl, ap, inl, inr, le_of_suc-le-suc, not-suc-le-zero, arith, rules}
+use Rattle.std.proofs.Common.{◌≡◌, ℕ, zero, suc, ◌+◌, ◌-◌, ◌*◌, ◌/◌, ◌<◌, ◌≤◌, Bool, true, false, cond, ◌&&◌, T, ltb, leb, sym, refl, ap, subst, inl, inr, Option, None, Some, le_of_suc-le-suc, not-suc-le-zero, arith, rules}
 use Rattle.std.proofs.lemmas.Bool.{cases_lt}
+use Rattle.std.specs.Option.{MatchOption, unwrap_or}
 use Rattle.terms.specs.declared.calendar.Date.{Date}
 use Rattle.terms.specs.Calendar.{leap_day, month_start, month_end, is_date, day_number}
 
@@ -79,3 +80,16 @@ one-date d e p q h =
     let z : d.day ≡ e.day = omega arith in
     let r : ◌≡◌ {A = Date} (record { year = d.year; month = d.month; day = d.day }) (record { year = e.year; month = e.month; day = e.day }) = cc in
     r
+
+-- a month begins where the one before it ends, and the first with the year
+pub month_begun : (l w k : ℕ) → k < 12 → ((j : ℕ) → 0 ≤ j → j < k → month_end l j ≤ w) → month_start l k ≤ w
+month_begun l w zero h before = search rules
+month_begun l w (suc j) h before =
+    let n : j + 1 ≡ suc j = omega arith in
+    let e : month_end l j ≡ month_start l (suc j) = rw n (search rules) in
+    omega (arith, e, before j (omega arith) (omega arith))
+
+-- the first month that ends after a day, or the last if none of the others does
+pub month_found : (l w k : ℕ) (o : Option ℕ) → k ≡ unwrap_or o 11 → w < 365 + l → MatchOption o ((j : ℕ) → 0 ≤ j → j < 11 → month_end l j ≤ w) (λ i. (0 ≤ i) × (i < 11) × (w < month_end l i) × ((j : ℕ) → 0 ≤ j → j < i → month_end l j ≤ w)) → (k < 12) × ((month_start l k ≤ w) × (w < month_end l k))
+month_found l w k None e h f = subst (λ z. (z < 12) × ((month_start l z ≤ w) × (w < month_end l z))) (sym e) (omega arith, (month_begun l w 11 (omega arith) f, h))
+month_found l w k (Some i) e h f = subst (λ z. (z < 12) × ((month_start l z ≤ w) × (w < month_end l z))) (sym e) (omega (arith, f.1), (month_begun l w i (omega (arith, f.1)) f.3, f.2))

@@ -28,40 +28,37 @@ fn leap_day(year: u16) -> u32
 }
 
 // Days of the year before the month, counted from 0.
-fn month_start(leap: u32, month: usize) -> u32
-    requires { (month < 12) × (leap ≤ 1) }
-    ensures { result ≡ month_start leap month }
+fn month_start(year: u16, month: usize) -> u32
+    requires { month < 12 }
+    ensures { result ≡ month_start (leap_day year) month }
 {
     if month < 2 {
         DAYS_BEFORE_MONTH[month]
     } else {
-        DAYS_BEFORE_MONTH[month] + leap
+        DAYS_BEFORE_MONTH[month] + leap_day(year)
     }
 }
 
 // Days of the year up to the month's end.
-fn month_end(leap: u32, month: usize) -> u32
-    requires { (month < 12) × (leap ≤ 1) }
-    ensures { result ≡ month_end leap month }
+fn month_end(year: u16, month: usize) -> u32
+    requires { month < 12 }
+    ensures { result ≡ month_end (leap_day year) month }
 {
     if month < 11 {
-        month_start(leap, month + 1)
+        month_start(year, month + 1)
     } else {
-        365 + leap
+        365 + leap_day(year)
     }
 }
 
 // The month, counted from 0, in which a day of the year falls, itself counted from 0.
-fn month_of(leap: u32, within: u32) -> usize
-    requires { (leap ≤ 1) × (within < 365 + leap) }
-    ensures { (result < 12) × ((month_start leap result ≤ within) × (within < month_end leap result)) }
+fn month_of(year: u16, within: u32) -> usize
+    requires { within < 365 + leap_day year }
+    ensures { (result < 12) × ((month_start (leap_day year) result ≤ within) × (within < month_end (leap_day year) result)) }
 {
-    for month in 0..11 {
-        if within < month_end(leap, month) {
-            return month;
-        }
-    }
-    11
+    (0..11)
+        .find(|month| within < month_end(year, *month))
+        .unwrap_or(11)
 }
 
 impl Date {
@@ -75,10 +72,9 @@ impl Date {
         if self.month < 1 || self.month > 12 || self.day < 1 {
             return Err(Refusal::NoSuchDay);
         }
-        let leap = leap_day(self.year);
         let month = usize::from(self.month - 1);
-        let within = month_start(leap, month) + u32::from(self.day);
-        if within > month_end(leap, month) {
+        let within = month_start(self.year, month) + u32::from(self.day);
+        if within > month_end(self.year, month) {
             return Err(Refusal::NoSuchDay);
         }
         let years = u32::from(self.year - FIRST_YEAR);
@@ -96,9 +92,8 @@ fn date_in_range(day: u32) -> Date
     let years = 4 * (day / 1461) + year;
     let within = rest - 365 * year;
     let year = FIRST_YEAR + years as u16;
-    let leap = leap_day(year);
-    let month = month_of(leap, within);
-    let day = within - month_start(leap, month) + 1;
+    let month = month_of(year, within);
+    let day = within - month_start(year, month) + 1;
     Date {
         year,
         month: month as u8 + 1,
