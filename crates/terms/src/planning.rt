@@ -1,7 +1,7 @@
-ghost use Rattle.std.specs.Prelude.{◌≡◌, ◌≤◌, true, not, ◌&&◌, [], ◌∷◌, length, take, negsuc, Ok, Err, MatchResult, int_lt, unsigned_abs};
+ghost use Rattle.std.specs.Prelude.{◌≡◌, ◌≤◌, not, [], ◌∷◌, length, take, negsuc, unsigned_abs};
 ghost use Rattle.terms.specs.declared.refusal.Refusal.TheVariants.{AmountOutOfRange};
 ghost use Rattle.terms.specs.Refusals.{first, answered};
-ghost use Rattle.terms.specs.Ranges.{is_day, is_percent};
+ghost use Rattle.terms.specs.Ranges.{is_percent};
 ghost use Rattle.terms.specs.Plans.{ascend, is_workday, is_business_day, percent_answer, PlanAnswer, holidays_of};
 
 use crate::calendar::Weekday;
@@ -35,25 +35,11 @@ impl Percent {
     }
 }
 
-// Whether a holiday is a day of the calendar after the one before.
-fn follows(last: i64, holiday: i64) -> bool
-    ensures { result ≡ (int_lt last holiday && is_day holiday) }
-{
-    last < holiday && DAYS.has(holiday)
-}
-
 // Whether the holidays are days of the calendar, each after the one before.
 fn ascending(holidays: &[i64]) -> bool
     ensures { result ≡ ascend (negsuc 0) holidays.now }
 {
-    let mut last = -1;
-    for holiday in holidays {
-        if !follows(last, *holiday) {
-            return false;
-        }
-        last = *holiday;
-    }
-    true
+    holidays.iter().all(|day| DAYS.has(*day)) && holidays.is_sorted_by(|a, b| a < b)
 }
 
 // A day of the calendar that is no Saturday and no Sunday.
