@@ -9,7 +9,7 @@ use Rattle.terms.specs.declared.plan.Plan.{Plan}
 use Rattle.terms.specs.declared.refusal.Refusal.{Refusal}
 use Rattle.terms.specs.declared.refusal.Refusal.TheVariants.{WrongTicket, AuctionStands, OfferAboveMatured, NumbersUsedUp, DayOutOfOrder}
 use Rattle.terms.specs.Refusals.{first}
-use Rattle.terms.proofs.Answered.{none_from_ok, some_from_err, first_some, first-none}
+use Rattle.terms.proofs.Answered.{first_some, first-none}
 use Rattle.rules.proofs.Runs.{passed}
 use Rattle.rules.specs.Numbers.{Answer}
 use Rattle.rules.specs.declared.auction.Kind.TheVariants.{Initial, Maturity}
@@ -30,7 +30,7 @@ use Rattle.rules.specs.Books.{Auction, Books, bidding, holds, stands, same_stage
 use Rattle.rules.specs.Rules.{is_business, Told, quietly, tests, answers, after, judged, step, terms_given, bid_given}
 use Rattle.rules.specs.Allotment.{entered}
 use Rattle.book.specs.Tests.{is_maturity, announce_input, announce_state, bid_input, bid_state, UnderTicket}
-use Rattle.book.specs.View.{auction_of, books_of, Does, Refuses, Tested, done_or}
+use Rattle.book.specs.View.{auction_of, books_of, Does, Refuses, done_or}
 use Rattle.book.specs.Soundness.{no_desk}
 use Rattle.book.specs.declared.standing.Standing.{Standing}
 use Rattle.book.specs.declared.book.Book.{Book}
@@ -50,12 +50,9 @@ refused k c why q = record { steps = λ T C balance free. refusing k.plan T C (b
 pub refused_by : (k : Book) (c : Call) (why : Refusal) (a : Answer) → a ≡ Err why → Refuses k c (Some why) → Does k c (quietly a) k
 refused_by k c why a e q = subst (λ (x : Answer). Does k c (quietly x) k) (sym e) (refused k c why q)
 
--- a test that is not passed, and one that is
-pub tested_error : (k : Book) (c : Call) (why : Refusal) (r : Result (Unit {0}) Refusal) → r ≡ Err why → Tested k c (Err why) → Does k c (quietly (done_or r)) k
-tested_error k c why r e q = refused_by k c why (done_or r) (ap done_or e) (λ T C balance free. sym (some_from_err _ why tt (q T C balance free)))
-
-pub tested_passed : (k : Book) (c : Call) → Tested k c (Ok tt) → Refuses k c None
-tested_passed k c q T C balance free = sym (none_from_ok _ tt tt (q T C balance free))
+-- a test that is not passed
+pub tested_error : (k : Book) (c : Call) (why : Refusal) (r : Result (Unit {0}) Refusal) → r ≡ Err why → Refuses k c (Some why) → Does k c (quietly (done_or r)) k
+tested_error k c why r e q = refused_by k c why (done_or r) (ap done_or e) q
 
 -- on desks of nobody alone, anyone's is of nobody
 pub none_there : (n i : ℕ) → get_or (replicate n no_desk) i no_desk ≡ no_desk

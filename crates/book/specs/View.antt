@@ -1,7 +1,8 @@
 -- How the tables of a house are read as its books. Assumes nothing.
-use Rattle.std.specs.Prelude.{◌≡◌, ℕ, ◌-◌, ◌≤◌, List, [], ◌∷◌, ◌++◌, length, take, drop, ℤ, Some, None, Ok, Err, Option, Result, slice_index_or}
+use Rattle.std.specs.Prelude.{◌≡◌, ℕ, ◌-◌, ◌≤◌, List, [], ◌∷◌, ◌++◌, length, take, drop, ℤ, Some, None, Ok, Err, Option, Result, slice_index_or, unsigned_abs}
 use Rattle.terms.specs.declared.refusal.Refusal.{Refusal}
-use Rattle.terms.specs.Refusals.{first, answered}
+use Rattle.terms.specs.declared.institution.Institution.{Institution}
+use Rattle.terms.specs.Refusals.{first}
 use Rattle.tie_rules.specs.Sharing.{Sharing}
 use Rattle.conventions.specs.Deciding.{Deciding}
 use Rattle.rules.specs.declared.call.Call.{Call}
@@ -67,9 +68,10 @@ pub record Tells (C : Deciding) (free : ℕ) (k : Book) (c : Call) (t : Told) (k
 abbrev pub Refuses : Book → Call → Option Refusal → Type 0
 Refuses k c r = (T : Sharing) (C : Deciding) (balance : ℕ → ℤ) (free : ℕ) → r ≡ first (tests k.plan T C (books_of balance free k) c)
 
--- a test of a call on the tables answers why the call is refused, if it is
-abbrev pub Tested : Book → Call → Result (Unit {0}) Refusal → Type 0
-Tested k c r = (T : Sharing) (C : Deciding) (balance : ℕ → ℤ) (free : ℕ) → r ≡ answered (first (tests k.plan T C (books_of balance free k) c)) tt
+-- a test of a call on the tables answers why the call is refused, if it is, or else the institution that it names
+abbrev pub Tested : Book → Call → ℤ → Result Institution Refusal → Type 0
+Tested k c number (Ok institution) = Refuses k c None × (institution.number ≡ unsigned_abs number)
+Tested k c number (Err why) = Refuses k c (Some why)
 
 -- what a call without a result answers
 abbrev pub done_or : Result (Unit {0}) Refusal → Answer

@@ -1,4 +1,4 @@
-ghost use Rattle.std.specs.Prelude.{ℕ, ◌+◌, ◌≤◌, ℤ, pos, ◌≤ℤ◌, OnOk, slice_index_or, unsigned_abs};
+ghost use Rattle.std.specs.Prelude.{◌+◌, ◌≤◌, pos, ◌≤ℤ◌, OnOk, slice_index_or, unsigned_abs};
 ghost use Rattle.rules.specs.declared.call.Call.TheVariants.{Admit, Lodge, Release};
 ghost use Rattle.rules.specs.Rules.{quietly};
 ghost use Rattle.book.specs.View.{Does, Tested, done_or};
@@ -6,56 +6,50 @@ ghost use Rattle.book.specs.Soundness.{no_desk};
 
 use crate::book::Book;
 use rules::hedge::Desk;
-use terms::range::{INSTITUTIONS, LODGEMENTS};
+use terms::institution::Institution;
+use terms::range::LODGEMENTS;
 use terms::refusal::Refusal;
 
 const MOST_COLLATERAL: u64 = 10_000_000_000_000_000;
 
 impl Book {
-    fn test_admit(&self, institution: i64) -> Result<(), Refusal>
-        ensures answer { Tested self.now (Admit institution) result }
-        ensures passed { OnOk result ((pos 1 ≤ℤ institution) × (institution ≤ℤ pos 16)) }
+    fn test_admit(&self, institution: i64) -> Result<Institution, Refusal>
+        ensures { Tested self.now (Admit institution) institution result }
     {
-        if !INSTITUTIONS.has(institution) {
-            return Err(Refusal::UnknownParty);
-        }
-        if self.desks[institution as usize].admitted {
+        let institution = Institution::try_from(institution)?;
+        if self.desks[institution.place()].admitted {
             return Err(Refusal::AlreadyAdmitted);
         }
-        Ok(())
+        Ok(institution)
     }
 
-    fn test_lodge(&self, institution: i64, centavos: i64) -> Result<(), Refusal>
-        ensures answer { Tested self.now (Lodge institution centavos) result }
-        ensures passed { OnOk result ((pos 1 ≤ℤ institution) × (institution ≤ℤ pos 16) × (pos 1 ≤ℤ centavos) × ((slice_index_or self.now.desks (unsigned_abs institution) no_desk).collateral + unsigned_abs centavos ≤ 10000000000000000)) }
+    fn test_lodge(&self, institution: i64, centavos: i64) -> Result<Institution, Refusal>
+        ensures answer { Tested self.now (Lodge institution centavos) institution result }
+        ensures passed { OnOk result ((pos 1 ≤ℤ centavos) × ((slice_index_or self.now.desks (unsigned_abs institution) no_desk).collateral + unsigned_abs centavos ≤ 10000000000000000)) }
     {
-        if !INSTITUTIONS.has(institution) {
-            return Err(Refusal::UnknownParty);
-        }
+        let institution = Institution::try_from(institution)?;
         if !LODGEMENTS.has(centavos) {
             return Err(Refusal::AmountOutOfRange);
         }
-        let desk = self.desks[institution as usize];
+        let desk = self.desks[institution.place()];
         if !desk.admitted {
             return Err(Refusal::NotAdmitted);
         }
         if desk.collateral > MOST_COLLATERAL - centavos as u64 {
             return Err(Refusal::CollateralOutOfBounds);
         }
-        Ok(())
+        Ok(institution)
     }
 
-    fn test_release(&self, institution: i64, centavos: i64) -> Result<(), Refusal>
-        ensures answer { Tested self.now (Release institution centavos) result }
-        ensures passed { OnOk result ((pos 1 ≤ℤ institution) × (institution ≤ℤ pos 16) × (pos 1 ≤ℤ centavos) × (unsigned_abs centavos ≤ (slice_index_or self.now.desks (unsigned_abs institution) no_desk).collateral)) }
+    fn test_release(&self, institution: i64, centavos: i64) -> Result<Institution, Refusal>
+        ensures answer { Tested self.now (Release institution centavos) institution result }
+        ensures passed { OnOk result ((pos 1 ≤ℤ centavos) × (unsigned_abs centavos ≤ (slice_index_or self.now.desks (unsigned_abs institution) no_desk).collateral)) }
     {
-        if !INSTITUTIONS.has(institution) {
-            return Err(Refusal::UnknownParty);
-        }
+        let institution = Institution::try_from(institution)?;
         if !LODGEMENTS.has(centavos) {
             return Err(Refusal::AmountOutOfRange);
         }
-        let desk = self.desks[institution as usize];
+        let desk = self.desks[institution.place()];
         if !desk.admitted {
             return Err(Refusal::NotAdmitted);
         }
@@ -64,15 +58,15 @@ impl Book {
         {
             return Err(Refusal::CollateralOutOfBounds);
         }
-        Ok(())
+        Ok(institution)
     }
 
     // Enters an institution.
     pub fn admit(&mut self, institution: i64) -> Result<(), Refusal>
         ensures { Does self.old (Admit institution) (quietly (done_or result)) self.new }
     {
-        self.test_admit(institution)?;
-        self.desks[institution as usize] = Desk {
+        let institution = self.test_admit(institution)?;
+        self.desks[institution.place()] = Desk {
             admitted: true,
             ..Desk::default()
         };
@@ -83,8 +77,8 @@ impl Book {
     pub fn lodge(&mut self, institution: i64, centavos: i64) -> Result<(), Refusal>
         ensures { Does self.old (Lodge institution centavos) (quietly (done_or result)) self.new }
     {
-        self.test_lodge(institution, centavos)?;
-        self.desks[institution as usize].collateral += centavos as u64;
+        let institution = self.test_lodge(institution, centavos)?;
+        self.desks[institution.place()].collateral += centavos as u64;
         Ok(())
     }
 
@@ -92,8 +86,8 @@ impl Book {
     pub fn release(&mut self, institution: i64, centavos: i64) -> Result<(), Refusal>
         ensures { Does self.old (Release institution centavos) (quietly (done_or result)) self.new }
     {
-        self.test_release(institution, centavos)?;
-        self.desks[institution as usize].collateral -= centavos as u64;
+        let institution = self.test_release(institution, centavos)?;
+        self.desks[institution.place()].collateral -= centavos as u64;
         Ok(())
     }
 }

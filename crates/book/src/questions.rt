@@ -9,7 +9,7 @@ ghost use Rattle.book.specs.View.{ticket_standing};
 use crate::book::Book;
 use rules::auction::TicketName;
 use rules::hedge::{Desk, Hedge};
-use terms::range::INSTITUTIONS;
+use terms::institution::Institution;
 use terms::refusal::Refusal;
 
 impl Book {
@@ -52,10 +52,8 @@ impl Book {
     pub fn desk(&self, institution: i64) -> Result<Desk, Refusal>
         ensures { result ≡ answered (first (desk_tests self.now.desks institution)) (slice_index_or self.now.desks (unsigned_abs institution) no_desk) }
     {
-        if !INSTITUTIONS.has(institution) {
-            return Err(Refusal::UnknownParty);
-        }
-        let desk = self.desks[institution as usize];
+        let institution = Institution::try_from(institution)?;
+        let desk = self.desks[institution.place()];
         if !desk.admitted {
             return Err(Refusal::NotAdmitted);
         }

@@ -1,4 +1,5 @@
 pub mod Calendar
+pub mod Institutions
 pub mod Plans
 pub mod Ranges
 pub mod Rates

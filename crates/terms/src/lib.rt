@@ -3,6 +3,8 @@
 #![tactic(auto)]
 
 pub mod calendar;
+pub mod institution;
+pub mod parties;
 pub mod percent;
 pub mod plan;
 pub mod planning;
