@@ -1,4 +1,4 @@
-ghost use Rattle.std.specs.Prelude.{◌+◌, ◌≤◌, pos, ◌≤ℤ◌, OnOk, slice_index_or, unsigned_abs};
+ghost use Rattle.std.specs.Prelude.{◌+◌, ◌≤◌, OnOk, slice_index_or, unsigned_abs};
 ghost use Rattle.rules.specs.declared.call.Call.TheVariants.{Admit, Lodge, Release};
 ghost use Rattle.rules.specs.Rules.{quietly};
 ghost use Rattle.book.specs.View.{Does, Tested, done_or};
@@ -25,7 +25,7 @@ impl Book {
 
     fn test_lodge(&self, institution: i64, centavos: i64) -> Result<Institution, Refusal>
         ensures answer { Tested self.now (Lodge institution centavos) institution result }
-        ensures passed { OnOk result ((pos 1 ≤ℤ centavos) × ((slice_index_or self.now.desks (unsigned_abs institution) no_desk).collateral + unsigned_abs centavos ≤ 10000000000000000)) }
+        ensures passed { OnOk result ((slice_index_or self.now.desks (unsigned_abs institution) no_desk).collateral + unsigned_abs centavos ≤ 10000000000000000) }
     {
         let institution = Institution::try_from(institution)?;
         if !LODGEMENTS.has(centavos) {
@@ -35,7 +35,7 @@ impl Book {
         if !desk.admitted {
             return Err(Refusal::NotAdmitted);
         }
-        if desk.collateral > MOST_COLLATERAL - centavos as u64 {
+        if desk.collateral > MOST_COLLATERAL - centavos.unsigned_abs() {
             return Err(Refusal::CollateralOutOfBounds);
         }
         Ok(institution)
@@ -43,7 +43,7 @@ impl Book {
 
     fn test_release(&self, institution: i64, centavos: i64) -> Result<Institution, Refusal>
         ensures answer { Tested self.now (Release institution centavos) institution result }
-        ensures passed { OnOk result ((pos 1 ≤ℤ centavos) × (unsigned_abs centavos ≤ (slice_index_or self.now.desks (unsigned_abs institution) no_desk).collateral)) }
+        ensures passed { OnOk result (unsigned_abs centavos ≤ (slice_index_or self.now.desks (unsigned_abs institution) no_desk).collateral) }
     {
         let institution = Institution::try_from(institution)?;
         if !LODGEMENTS.has(centavos) {
@@ -53,8 +53,8 @@ impl Book {
         if !desk.admitted {
             return Err(Refusal::NotAdmitted);
         }
-        if desk.collateral < centavos as u64
-            || desk.collateral - (centavos as u64) < desk.requirement
+        if desk.collateral < centavos.unsigned_abs()
+            || desk.collateral - centavos.unsigned_abs() < desk.requirement
         {
             return Err(Refusal::CollateralOutOfBounds);
         }
@@ -78,7 +78,7 @@ impl Book {
         ensures { Does self.old (Lodge institution centavos) (quietly (done_or result)) self.new }
     {
         let institution = self.test_lodge(institution, centavos)?;
-        self.desks[institution.place()].collateral += centavos as u64;
+        self.desks[institution.place()].collateral += centavos.unsigned_abs();
         Ok(())
     }
 
@@ -87,7 +87,7 @@ impl Book {
         ensures { Does self.old (Release institution centavos) (quietly (done_or result)) self.new }
     {
         let institution = self.test_release(institution, centavos)?;
-        self.desks[institution.place()].collateral -= centavos as u64;
+        self.desks[institution.place()].collateral -= centavos.unsigned_abs();
         Ok(())
     }
 }

@@ -24,4 +24,5 @@ returns c =
     let none : Refuses k call None = simp to_z-of_z at q.0 in
     let at : c.place.result ≡ nat_abs c.args.institution = c.place.ensures ∙ simp to_z-of_z at q.1 in
     let lt : nat_abs c.args.institution < length k.desks = omega (arith, at, c.place.ensures, c.in_ok-institution.institution.known) in
-    record { steps = rw at (simp to_z-of_z (desk_written k call (nat_abs c.args.institution) _ lt none (λ T C balance free. refl))); plan = refl }
+    let u : c.unsigned_abs.result ≡ nat_abs c.args.centavos = simp to_z-of_z at c.unsigned_abs.ensures.value in
+    record { steps = rw (at, u) (desk_written k call (nat_abs c.args.institution) _ lt none (λ T C balance free. refl)); plan = refl }
