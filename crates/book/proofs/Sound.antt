@@ -1,22 +1,13 @@
 -- What the tables keep to is kept by a new bid and by a written desk.
-use Rattle.std.proofs.Common.{◌≡◌, ℕ, zero, suc, ◌≤◌, Bool, true, false, cond, ◌&&◌, leb, List, [], ◌∷◌, get_or, set, Some, Option, sym, refl, ap, ◌∙◌, subst}
+use Rattle.std.proofs.Common.{◌≡◌, ℕ, Bool, true, false, cond, ◌&&◌, leb, List, [], ◌∷◌, Some, Option, sym, refl, ap, ◌∙◌, subst}
 use lib.Signed.{lt_z}
 use Rattle.std.specs.List.{list_all}
 use Rattle.std.proofs.lemmas.Bool.{and_parts}
 use Rattle.rules.specs.declared.auction.Kind.{Kind}
 use Rattle.rules.specs.declared.auction.Bid.{Bid}
-use Rattle.rules.specs.declared.hedge.Desk.{Desk}
 use Rattle.rules.specs.Allotment.{entered}
-use Rattle.book.specs.Soundness.{no_desk, is_sound_bid, is_sound_auction}
+use Rattle.book.specs.Soundness.{is_sound_bid, is_sound_auction}
 use Rattle.book.specs.declared.standing.Standing.{Standing}
-
--- one desk written
-pub required_set : (xs : List Desk) (i : ℕ) (d : Desk) (most : ℕ) → ((j : ℕ) → (get_or xs j no_desk).requirement ≤ most) → d.requirement ≤ most → (j : ℕ) → (get_or (set xs i d) j no_desk).requirement ≤ most
-required_set [] i d most h g j = h j
-required_set (x ∷ xs) zero d most h g zero = g
-required_set (x ∷ xs) zero d most h g (suc j) = h (suc j)
-required_set (x ∷ xs) (suc i) d most h g zero = h zero
-required_set (x ∷ xs) (suc i) d most h g (suc j) = required_set xs i d most (λ k. h (suc k)) g j
 
 pub and_true : (a b : Bool) → a ≡ true → b ≡ true → a && b ≡ true
 and_true a b p q = ap (λ t. t && b) p ∙ q

@@ -1,7 +1,7 @@
 -- Numbers spelled side by side, read one after another. Assumes nothing.
 use Rattle.std.proofs.Common.{◌≡◌, ℕ, ◌+◌, ◌-◌, ◌^◌, ◌<◌, ◌≤◌, List, [], ◌∷◌, ◌++◌, map, length, take, drop, set, ℤ, pos, Some, None, Ok, Err, Result, sym, ap, ◌∙◌, subst, arith}
 use Rattle.std.specs.List.{flat_map}
-use Rattle.std.proofs.lemmas.List.{append_assoc, append-nil, drop_all, flat_map_more, length-append, length-drop, length-take-le, length-map, map_push, take_more_set, take_rest}
+use Rattle.std.proofs.lemmas.List.{append_assoc, flat_map_more, length-append, length-drop, map_push, take_more_set, take_rest}
 use Rattle.std.proofs.ByRecursion.{All-push}
 use Rattle.std.specs.Result.{result_ok}
 use Rattle.day_sheet.specs.declared.groups.Number.{Number}
@@ -31,18 +31,11 @@ spelt_more ns bytes at n len s b l =
 pub spelt_within : (ns bytes : List ℕ) (at : ℕ) → Spelt ns bytes at → at ≤ length bytes
 spelt_within ns bytes at s = omega (arith, ap length s.front, s.place, length-append (flat_map groups ns) (drop at bytes))
 
-pub spelt_end : (ns bytes : List ℕ) (at : ℕ) → Spelt ns bytes at → length bytes ≤ at → bytes ≡ flat_map groups ns
-spelt_end ns bytes at s h = s.front ∙ ap (λ r. flat_map groups ns ++ r) (drop_all at bytes h) ∙ append-nil (flat_map groups ns)
-
 -- ---- a turn of the loop that keeps the numbers
 pub kept_more : (kept : List ℤ) (bytes : List ℕ) (i at n len : ℕ) → i < length kept → ReadOff (take i kept) bytes at → Begins (drop at bytes) n (drop (at + len) bytes) → len ≡ length (groups n) → ReadOff (take (i + 1) (set kept i (pos n))) bytes (at + len)
 kept_more kept bytes i at n len h read b l =
     let e : take (i + 1) (set kept i (pos n)) ≡ map pos (read.0 ++ n ∷ []) = take_more_set kept i (pos n) h ∙ ap (λ zs. zs ++ pos n ∷ []) read.1 ∙ sym (map_push pos read.0 n) in
     (read.0 ++ n ∷ [], e, spelt_more read.0 bytes at n len read.2 b l)
-
--- how many were read
-pub read_count : (kept : List ℤ) (bytes : List ℕ) (i at : ℕ) → i ≤ length kept → (read : ReadOff (take i kept) bytes at) → length read.0 ≡ i
-read_count kept bytes i at h read = omega (arith, length-take-le i kept (omega arith), ap length read.1, length-map read.0 pos)
 
 -- nine groups of seven bits leave the sign's bit free
 pub short-fits : (n : ℕ) → Short n → n < 2 ^ 63

@@ -18,13 +18,6 @@ serve_group-left-requires-clause-ranged g c =
     let rest = drop c.loop-group.start bids in
     ap (list_all in_range) (group bids c.in-Some.group.now c.loop-group.start c.in-Some.ensures.0) ∙ range_take (group_size rest) rest (range_drop c.loop-group.start bids c.requires.ranged)
 
-pub loop-group-smaller : goal.loop-group-smaller
-loop-group-smaller g c =
-    let bids = c.args.bids.now in
-    let rest = drop c.loop-group.start bids in
-    let e = group bids c.in-Some.group.now c.loop-group.start c.in-Some.ensures.0 in
-    omega (arith, c.in-Some.ensures.1, ap length e, length-take (group_size rest) rest, length-drop c.loop-group.start bids)
-
 pub loop-group-preserved : goal.loop-group-preserved
 loop-group-preserved g c =
     let bids = c.args.bids.now in

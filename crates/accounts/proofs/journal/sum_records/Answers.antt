@@ -1,7 +1,4 @@
-use Rattle.std.proofs.Common.{get_or, ap, ◌∙◌, arith, w64}
-use Rattle.std.proofs.lemmas.List.{take_all}
-use Rattle.std.proofs.lemmas.Int.{to_z-of_z}
-use Rattle.accounts.specs.Journals.{balance_by}
+use Rattle.std.proofs.Common.{get_or, arith}
 use Rattle.accounts.proofs.Answered.{back}
 use Rattle.accounts.proofs.Records.{balance_more, moved-into_small, turn, blank}
 use Rattle.accounts.proofs.journal.sum_records.Goals as goal
@@ -12,9 +9,3 @@ loop-posting-preserved c =
     let k = back c.args.party in
     turn i _ _ _ _ _ c.loop-posting.invariant.0 c.moved_into-sum.ensures (balance_more c.args.records.now i k c.loop-posting-test.true) c.loop-posting.invariant.1
     (moved-into_small k (get_or c.args.records.now i blank)) (omega arith)
-
-pub returns : goal.returns
-returns c =
-    c.loop-posting.invariant.0
-    ∙ ap (λ ps. balance_by ps (back c.args.party)) (take_all c.loop-posting.posting-index c.args.records.now c.loop-posting-test.false)
-    ∙ ap (balance_by c.args.records.now) (to_z-of_z w64 c.args.party c.ranges.party)

@@ -1,4 +1,4 @@
-use Rattle.std.proofs.Common.{◌≡◌, Err, Ok, List, [], ◌∷◌, ◌++◌, take, drop, sym, refl, ap, ◌∙◌, subst}
+use Rattle.std.proofs.Common.{Err, Ok, List, [], ◌∷◌, sym, refl, ap, ◌∙◌, subst}
 use Rattle.std.proofs.lemmas.Int.{to_z-of_z}
 use Rattle.std.proofs.lemmas.Result.{err_from_is_err_and}
 use Rattle.rules.specs.Numbers.{Answer}
@@ -6,7 +6,7 @@ use Rattle.rules.specs.declared.call.Call.TheVariants.{Terminate}
 use Rattle.rules.specs.declared.call.Accepted.TheVariants.{Terminated}
 use Rattle.rules.specs.declared.hedge.Line.{Line}
 use Rattle.rules.specs.Rules.{quietly}
-use Rattle.room.specs.Rooms.{Turns, told_by, lines_told}
+use Rattle.room.specs.Rooms.{Turns, told_by}
 use Rattle.room.specs.declared.room.Room.{Room}
 use Rattle.room.proofs.Turning.{still_turns, first-set}
 use Rattle.room.proofs.room.Room.terminate.Goals as goal
@@ -19,12 +19,6 @@ returns-in_err-line-clause-turns g c =
     let d' : Room g.row.A.Denot g.row.T.Denot g.row.C.Denot = record { house = c.terminate.new.self; hand = d.hand } in
     subst (λ (x : Answer). Turns g.A.Accounts.balances g.A.Accounts.free g.T.TieRule.meaning g.C.Convention.meaning d (Terminate c.args.hedge) (told_by (Terminate c.args.hedge) x c.args.lines.now) d') (sym (p.1 ∙ ap Err p.2))
     (still_turns g.A.Accounts.balances g.A.Accounts.free g.T.TieRule.meaning g.C.Convention.meaning d (Terminate c.args.hedge) (quietly (Err c.in_err-line.field-0.0)) d' (simp to_z-of_z at c.in_err-line.ensures) refl refl)
-
-pub returns-in_err-line-clause-later : goal.returns-in_err-line-clause-later
-returns-in_err-line-clause-later g c =
-    let p = err_from_is_err_and c.from_residual.result c.from_residual.ensures.1 in
-    let none : lines_told (Terminate c.args.hedge) c.from_residual.result ≡ 0 = ap (lines_told (Terminate c.args.hedge)) (p.1 ∙ ap Err p.2) in
-    sym (ap (λ n. take n c.args.lines.now ++ drop n c.args.lines.now) none)
 
 pub returns : goal.returns
 returns g c =
