@@ -40,10 +40,7 @@ fn row(what: &'static str, reckoned: i64, stated: i64) -> Figure {
 
 // A refusal counts as its number below nought.
 fn told<T: Into<i64>>(answer: Result<T, Refusal>) -> i64 {
-    match answer {
-        Ok(value) => value.into(),
-        Err(why) => -i64::from(why.number()),
-    }
+    answer.map_or_else(|why| -i64::from(why.number()), |value| value.into())
 }
 
 fn day(year: u16, month: u8, day: u8) -> i64 {

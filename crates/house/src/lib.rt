@@ -2,7 +2,6 @@
 #![tactic(auto)]
 
 pub mod calls;
-pub mod fixing;
 pub mod house;
 pub mod opening;
 pub mod posting;

@@ -36,6 +36,10 @@ impl fmt::Display for Grouped {
     }
 }
 
+fn sign(number: i64) -> &'static str {
+    if number < 0 { "-" } else { "" }
+}
+
 // Ten-thousandths of a peso per dollar, as pesos.
 #[derive(Clone, Copy)]
 pub struct Rate(pub i32);
@@ -43,10 +47,8 @@ pub struct Rate(pub i32);
 impl fmt::Display for Rate {
     fn fmt<W: fmt::Write>(&self, f: &mut fmt::Formatter<W>) -> fmt::Result {
         let size = self.0.unsigned_abs();
-        let sign = if self.0 < 0 { "-" } else { "" };
-        let pesos = size / 10_000;
-        let rest = size % 10_000;
-        write!(f, "{sign}{pesos}.{rest:04}")
+        let sign = sign(i64::from(self.0));
+        write!(f, "{sign}{}.{:04}", size / 10_000, size % 10_000)
     }
 }
 
@@ -57,9 +59,7 @@ pub struct Pesos(pub i64);
 impl fmt::Display for Pesos {
     fn fmt<W: fmt::Write>(&self, f: &mut fmt::Formatter<W>) -> fmt::Result {
         let size = self.0.unsigned_abs();
-        let sign = if self.0 < 0 { "-" } else { "" };
         let pesos = Grouped(size / 100);
-        let rest = size % 100;
-        write!(f, "{sign}{pesos}.{rest:02}")
+        write!(f, "{}{pesos}.{:02}", sign(self.0), size % 100)
     }
 }
