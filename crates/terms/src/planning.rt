@@ -39,7 +39,8 @@ impl Percent {
 fn ascending(holidays: &[i64]) -> bool
     ensures { result ≡ ascend (negsuc 0) holidays.now }
 {
-    holidays.iter().all(|day| DAYS.has(*day)) && holidays.is_sorted_by(|a, b| a < b)
+    holidays.first().is_none_or(|day| DAYS.has(*day))
+        && holidays.is_sorted_by(|a, b| a < b && DAYS.has(*b))
 }
 
 // A day of the calendar that is no Saturday and no Sunday.
