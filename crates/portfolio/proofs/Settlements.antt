@@ -9,19 +9,9 @@ use Rattle.rules.specs.declared.hedge.Line.{Line}
 use Rattle.rules.specs.Settlement.{line_of, pays}
 use Rattle.rules.proofs.Sizes.{length-kept}
 use Rattle.portfolio.specs.Fitting.{no_hedge, is_fit, is_sound, Payable}
-use Rattle.portfolio.specs.Settling.{settled_one}
+use Rattle.portfolio.specs.Settling.{counted, settled_one, with_line}
 use Rattle.portfolio.proofs.Sizes.{line-payable}
 use Rattle.portfolio.proofs.Soundness.{headed, sound_fit}
-
--- lines with one more written, if there is one
-abbrev pub with_line : Option Line → ℕ → List Line → List Line
-with_line None count lines = lines
-with_line (Some l) count lines = set lines count l
-
--- how many are written then
-abbrev pub counted : Option Line → ℕ → ℕ
-counted None count = count
-counted (Some l) count = count + 1
 
 no_line : Line
 no_line = line_of 0 no_hedge

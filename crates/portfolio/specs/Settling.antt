@@ -1,5 +1,5 @@
 -- What a settlement does to the hedges, and the lines that it writes. Assumes nothing.
-use Rattle.std.specs.Prelude.{ℕ, Bool, List, [], ◌∷◌, ◌++◌, map, length, drop, filter, nat_lt}
+use Rattle.std.specs.Prelude.{ℕ, ◌+◌, Bool, List, [], ◌∷◌, ◌++◌, map, length, drop, filter, slice_set, Option, None, Some, nat_lt}
 use Rattle.conventions.specs.Deciding.{Deciding}
 use Rattle.terms.specs.declared.refusal.Refusal.{Refusal}
 use Rattle.terms.specs.declared.refusal.Refusal.TheVariants.{WrongLength}
@@ -26,3 +26,13 @@ paid_lines C day rate hs = map (line_of rate) (filter (pays C day rate) (open_on
 -- lines laid over the first of others
 abbrev pub laid_over : (new old : List Line) → List Line
 laid_over new old = new ++ drop (length new) old
+
+-- lines with one more written, if there is one
+abbrev pub with_line : Option Line → ℕ → List Line → List Line
+with_line None count lines = lines
+with_line (Some l) count lines = slice_set lines count l
+
+-- how many are written then
+abbrev pub counted : Option Line → ℕ → ℕ
+counted None count = count
+counted (Some l) count = count + 1

@@ -26,6 +26,9 @@ impl Portfolio {
     fn open_place(&self, number: i64) -> Option<usize>
         ensures { MatchOption result (none_open number (placed_of self.now) ≡ true) (OpenAt number self.now) }
     {
+        if number < 0 {
+            return None;
+        }
         self.on_places().iter().position(|hedge| hedge.live
             && i64::from(hedge.deal.number) == number)
     }

@@ -10,7 +10,6 @@ use terms::range::{DOLLARS, INSTITUTIONS};
 use terms::rate::Rate;
 use terms::refusal::Refusal;
 
-// Dollars of one hedge.
 impl Portfolio {
     // Tests an issue, in the order of its refusals.
     fn test_issue(&self, institution: u32, dollars: u32) -> Result<(), Refusal>

@@ -6,6 +6,14 @@ ghost use Rattle.portfolio.specs.View.{placed_of, maturing_at};
 use crate::portfolio::Portfolio;
 use rules::hedge::Hedge;
 
+// A sum of ones and noughts takes no branch.
+fn count_open(hedges: &[Hedge]) -> usize
+    requires { length hedges.now ≤ 128 }
+    ensures { result ≡ length (open_ones hedges.now) }
+{
+    hedges.iter().map(|hedge| usize::from(hedge.live)).sum()
+}
+
 impl Portfolio {
     pub(crate) fn on_places(&self) -> &[Hedge]
         ensures placed { result.now ≡ placed_of self.now }
@@ -18,6 +26,9 @@ impl Portfolio {
     pub fn hedge(&self, number: i64) -> Option<Hedge>
         ensures { result ≡ (if int_lt number (pos 0) then None else ask (unsigned_abs number) (placed_of self.now)) }
     {
+        if number < 0 {
+            return None;
+        }
         self.on_places()
             .iter()
             .find(|hedge| i64::from(hedge.deal.number) == number)
@@ -28,7 +39,7 @@ impl Portfolio {
     pub fn open_count(&self) -> usize
         ensures { result ≡ length (open_ones (placed_of self.now)) }
     {
-        self.on_places().iter().filter(|hedge| hedge.live).count()
+        count_open(self.on_places())
     }
 
     // Whether a settlement on this day would pass over the maturity day of an open hedge.

@@ -1,7 +1,7 @@
-ghost use Rattle.std.specs.Prelude.{◌≡◌, ℕ, ◌≤◌, true, ◌++◌, map, length, take, drop, if◌then◌else◌, Some, None, filter, OnOk};
+ghost use Rattle.std.specs.Prelude.{◌≡◌, ℕ, ◌≤◌, ◌<◌, true, ◌++◌, map, length, take, drop, if◌then◌else◌, Some, None, filter, OnOk};
 ghost use Rattle.std.specs.List.{AllByRecursion};
 ghost use Rattle.rules.specs.Settlement.{line_of, open_ones, pays};
-ghost use Rattle.portfolio.specs.Settling.{laid_over, paid_lines, room_tests, all_settled_at, settled_one};
+ghost use Rattle.portfolio.specs.Settling.{counted, laid_over, paid_lines, room_tests, all_settled_at, settled_one, with_line};
 ghost use Rattle.terms.specs.Refusals.{answered, first, unless_refused};
 ghost use Rattle.portfolio.specs.View.{placed_of};
 ghost use Rattle.portfolio.specs.Fitting.{is_fit, is_sound, Payable};
@@ -43,6 +43,21 @@ fn keep_open(hedges: &mut [Hedge]) -> usize
     count
 }
 
+// Writes a line behind those written, if there is one, and answers how many are written then.
+fn write_line(lines: &mut [Line], written: usize, line: Option<Line>) -> usize
+    requires { written < length lines.old }
+    ensures lines { lines.new ≡ with_line line written lines.old }
+    ensures count { result ≡ counted line written }
+{
+    match line {
+        None => written,
+        Some(line) => {
+            lines[written] = line;
+            written + 1
+        }
+    }
+}
+
 // Settles hedges by number, and answers how many lines it wrote.
 fn settle_all<C: Convention>(
     hedges: &mut [Hedge],
@@ -58,10 +73,8 @@ fn settle_all<C: Convention>(
 {
     let mut written = 0;
     for hedge in hedges.iter_mut() {
-        if let Some(line) = settle_one(hedge, convention, fixing) {
-            lines[written] = line;
-            written += 1;
-        }
+        let line = settle_one(hedge, convention, fixing);
+        written = write_line(lines, written, line);
     }
     written
 }
