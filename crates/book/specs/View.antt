@@ -19,7 +19,7 @@ use Rattle.portfolio.specs.Fitting.{Payable}
 use Rattle.book.specs.declared.publication.Publication.{Publication}
 use Rattle.portfolio.specs.View.{placed_of}
 use Rattle.book.specs.declared.standing.Standing.{Standing}
-use Rattle.book.specs.Soundness.{no_desk}
+pub use Rattle.book.specs.Soundness.{no_desk}
 use Rattle.book.specs.declared.book.Book.{Book}
 
 -- the standing auction with its bids

@@ -1,7 +1,7 @@
 ghost use Rattle.std.specs.Prelude.{◌≡◌, ℕ, ◌≤◌, true, length, take, slice_index_or};
 ghost use Rattle.book.specs.Soundness.{no_desk, is_sound_auction};
 
-use crate::standing::Standing;
+pub use crate::standing::Standing;
 use allotment::MOST_BIDS;
 use portfolio::portfolio::Portfolio;
 use rules::auction::Bid;

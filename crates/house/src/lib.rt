@@ -2,6 +2,7 @@
 #![tactic(auto)]
 
 pub mod calls;
+pub mod fixing;
 pub mod house;
 pub mod opening;
 pub mod posting;
