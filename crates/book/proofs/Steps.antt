@@ -1,5 +1,5 @@
 -- What a change of the tables is to the books.
-use Rattle.std.proofs.Common.{Err, Ok, ◌≡◌, ℕ, zero, suc, ◌+◌, ◌*◌, ◌%◌, ◌<◌, Bool, true, false, cond, not, ◌&&◌, eqb, ltb, leb, List, [], ◌∷◌, ◌++◌, length, get_or, take, set, replicate, ℤ, pos, nat_abs, ◌≤ℤ◌, Some, None, Option, Result, sym, refl, ap, ◌∙◌, subst, arith, w64, to_z, of_z}
+use Rattle.std.proofs.Common.{Err, Ok, ◌≡◌, ℕ, suc, ◌+◌, ◌*◌, ◌%◌, ◌<◌, Bool, true, false, cond, not, ◌&&◌, eqb, ltb, leb, List, [], ◌∷◌, ◌++◌, length, get_or, take, set, ℤ, pos, nat_abs, ◌≤ℤ◌, Some, None, Option, Result, sym, refl, ap, ◌∙◌, subst, arith, w64, to_z, of_z}
 use mathlib.Core.Path.{fun_ext}
 use lib.Signed.{le_z, lt_z}
 use Rattle.std.proofs.lemmas.Int.{ints}
@@ -53,12 +53,6 @@ refused_by k c why a e q = subst (λ (x : Answer). Does k c (quietly x) k) (sym 
 -- a test that is not passed
 pub tested_error : (k : Book) (c : Call) (why : Refusal) (r : Result (Unit {0}) Refusal) → r ≡ Err why → Refuses k c (Some why) → Does k c (quietly (done_or r)) k
 tested_error k c why r e q = refused_by k c why (done_or r) (ap done_or e) q
-
--- on desks of nobody alone, anyone's is of nobody
-pub none_there : (n i : ℕ) → get_or (replicate n no_desk) i no_desk ≡ no_desk
-none_there zero i = refl
-none_there (suc n) zero = refl
-none_there (suc n) (suc i) = none_there n i
 
 -- one desk written
 pub desk_set : (xs : List Desk) (i : ℕ) (d : Desk) → i < length xs → ◌≡◌ {A = ℕ → Desk} (λ k. cond (eqb k i) d (get_or xs k no_desk)) (λ k. get_or (set xs i d) k no_desk)

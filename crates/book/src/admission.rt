@@ -65,6 +65,12 @@ impl Book {
     pub fn admit(&mut self, institution: i64) -> Result<(), Refusal>
         ensures { Does self.old (Admit institution) (quietly (done_or result)) self.new }
     {
+        self.enter_institution(institution)
+    }
+
+    fn enter_institution(&mut self, institution: i64) -> Result<(), Refusal>
+        ensures { Does self.old (Admit institution) (quietly (done_or result)) self.new }
+    {
         let institution = self.test_admit(institution)?;
         self.desks[institution.place()] = Desk {
             admitted: true,
@@ -77,6 +83,12 @@ impl Book {
     pub fn lodge(&mut self, institution: i64, centavos: i64) -> Result<(), Refusal>
         ensures { Does self.old (Lodge institution centavos) (quietly (done_or result)) self.new }
     {
+        self.raise_collateral(institution, centavos)
+    }
+
+    fn raise_collateral(&mut self, institution: i64, centavos: i64) -> Result<(), Refusal>
+        ensures { Does self.old (Lodge institution centavos) (quietly (done_or result)) self.new }
+    {
         let institution = self.test_lodge(institution, centavos)?;
         self.desks[institution.place()].collateral += centavos.unsigned_abs();
         Ok(())
@@ -84,6 +96,12 @@ impl Book {
 
     // Lowers an institution's collateral.
     pub fn release(&mut self, institution: i64, centavos: i64) -> Result<(), Refusal>
+        ensures { Does self.old (Release institution centavos) (quietly (done_or result)) self.new }
+    {
+        self.lower_collateral(institution, centavos)
+    }
+
+    fn lower_collateral(&mut self, institution: i64, centavos: i64) -> Result<(), Refusal>
         ensures { Does self.old (Release institution centavos) (quietly (done_or result)) self.new }
     {
         let institution = self.test_release(institution, centavos)?;

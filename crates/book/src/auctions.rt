@@ -68,6 +68,12 @@ impl Book {
     ) -> Result<u32, Refusal>
         ensures { Does self.old (Announce kind offer cap maturity) (quietly (ticket_or result)) self.new }
     {
+        self.put_up(kind, offer, cap, maturity)
+    }
+
+    fn put_up(&mut self, kind: i64, offer: i64, cap: i64, maturity: i64) -> Result<u32, Refusal>
+        ensures { Does self.old (Announce kind offer cap maturity) (quietly (ticket_or result)) self.new }
+    {
         let terms = read_terms(&self.plan, kind, offer, cap, maturity)?;
         self.test_announce(terms)?;
         let number = self.auctions + 1;

@@ -115,6 +115,18 @@ impl Book {
     ) -> Result<(), Refusal>
         ensures { Does self.old (Offers number institution price millions) (quietly (done_or result)) self.new }
     {
+        self.take_bid(number, institution, price, millions)
+    }
+
+    fn take_bid(
+        &mut self,
+        number: u32,
+        institution: i64,
+        price: i64,
+        millions: i64,
+    ) -> Result<(), Refusal>
+        ensures { Does self.old (Offers number institution price millions) (quietly (done_or result)) self.new }
+    {
         let Standing { terms, .. } = self.auction_under(TicketName {
             number,
             stage: Stage::Bidding,

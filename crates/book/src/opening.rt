@@ -10,6 +10,14 @@ use rules::hedge::Desk;
 use terms::plan::Plan;
 use terms::range::PARTY_COUNT;
 
+// Written out, and not the default, so that what new tables are is proved by their values alone.
+const NO_DESK: Desk = Desk {
+    admitted: false,
+    collateral: 0,
+    value: 0,
+    requirement: 0,
+};
+
 impl Book {
     // The tables of a house just made of a checked plan.
     pub fn new(plan: Plan) -> Book
@@ -26,7 +34,7 @@ impl Book {
             taken: 0,
             portfolio: Portfolio::new(),
             matured: 0,
-            desks: [Desk::default(); PARTY_COUNT],
+            desks: [NO_DESK; PARTY_COUNT],
         }
     }
 }

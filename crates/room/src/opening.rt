@@ -13,6 +13,12 @@ impl<A: Accounts, T: TieRule, C: Convention> Room<A, T, C> {
     pub fn new(plan: Plan, accounts: A, tie_rule: T, convention: C) -> Self
         ensures { Opens A.Accounts.balances A.Accounts.free T.TieRule.meaning C.Convention.meaning plan accounts tie_rule convention result }
     {
+        Self::furnished(plan, accounts, tie_rule, convention)
+    }
+
+    fn furnished(plan: Plan, accounts: A, tie_rule: T, convention: C) -> Self
+        ensures { Opens A.Accounts.balances A.Accounts.free T.TieRule.meaning C.Convention.meaning plan accounts tie_rule convention result }
+    {
         Room {
             house: House::new(plan, accounts, tie_rule, convention),
             hand: None,

@@ -9,7 +9,7 @@ use Rattle.rules.specs.Rules.{terms_given}
 use Rattle.book.specs.Tests.{announce_input, announce_state}
 use Rattle.book.specs.View.{ticket_or}
 use Rattle.book.proofs.Steps.{refused_by, announce_refused, announce_tested, announced}
-use Rattle.book.proofs.book.Book.announce.Goals as goal
+use Rattle.book.proofs.book.Book.put_up.Goals as goal
 
 pub returns-in_err-terms : goal.returns-in_err-terms
 returns-in_err-terms c =

@@ -14,7 +14,7 @@ use Rattle.book.specs.Tests.{bid_input, bid_state}
 use Rattle.book.specs.View.{auction_of, books_of, done_or}
 use Rattle.book.proofs.Sound.{sound_taken}
 use Rattle.book.proofs.Steps.{refused_by, bid_refused, bid_tested, bid_taken}
-use Rattle.book.proofs.book.Book.bid.Goals as goal
+use Rattle.book.proofs.book.Book.take_bid.Goals as goal
 
 pub returns-in_err-bid : goal.returns-in_err-bid
 returns-in_err-bid c =
